@@ -1,0 +1,1 @@
+//! Stand-in: previews are not compared.

@@ -1,0 +1,1 @@
+//! Stand-in: worksheets are not compared.

@@ -1,0 +1,122 @@
+-- The answer is the first of refusals 6 to 10 that holds, asked in their order.
+use Rattle.rules.specs.Refusals.{verdict, listVerdict}
+use borrow.Author.Needs.{needs}
+use Rattle.checks.proofs.check_list.Statement.{statement}
+use Rattle.checks.proofs.check_list.Tie as tie
+
+bad-list-requires : tie.Need-bad-list-requires
+bad-list-requires c κs = search needs
+
+returns : tie.Need-returns
+unfolding listVerdict verdict
+returns c = rw (← c .before .bad-list .ensures, c .if1 .taken)
+
+place-outside-requires : tie.Need-place-outside-requires
+place-outside-requires c κs = search needs
+
+returns-2 : tie.Need-returns-2
+unfolding listVerdict verdict
+returns-2 c =
+    let e1 = c .before .before in
+    rw (
+      ← e1 .before .bad-list .ensures,
+      e1 .if1 .left,
+      ← c .before .place-outside .ensures,
+      c .if2 .taken,
+    )
+
+too-many-requires : tie.Need-too-many-requires
+too-many-requires c κs = search needs
+
+returns-3 : tie.Need-returns-3
+unfolding listVerdict verdict
+returns-3 c =
+    let e2 = c .before .before in
+    let e1 = e2 .before .before in
+    rw (
+      ← e1 .before .bad-list .ensures,
+      e1 .if1 .left,
+      ← e2 .before .place-outside .ensures,
+      e2 .if2 .left,
+      ← c .before .too-many .ensures,
+      c .if3 .taken,
+    )
+
+moved-requires : tie.Need-moved-requires
+moved-requires c κs = search needs
+
+returns-4 : tie.Need-returns-4
+unfolding listVerdict verdict
+returns-4 c =
+    let e3 = c .before .before in
+    let e2 = e3 .before .before in
+    let e1 = e2 .before .before in
+    rw (
+      ← e1 .before .bad-list .ensures,
+      e1 .if1 .left,
+      ← e2 .before .place-outside .ensures,
+      e2 .if2 .left,
+      ← e3 .before .too-many .ensures,
+      e3 .if3 .left,
+      ← c .before .moved .ensures,
+      c .if4 .taken,
+    )
+
+step-too-long-requires : tie.Need-step-too-long-requires
+step-too-long-requires c κs = search needs
+
+returns-5 : tie.Need-returns-5
+unfolding listVerdict verdict
+returns-5 c =
+    let e4 = c .before .before in
+    let e3 = e4 .before .before in
+    let e2 = e3 .before .before in
+    let e1 = e2 .before .before in
+    rw (
+      ← e1 .before .bad-list .ensures,
+      e1 .if1 .left,
+      ← e2 .before .place-outside .ensures,
+      e2 .if2 .left,
+      ← e3 .before .too-many .ensures,
+      e3 .if3 .left,
+      ← e4 .before .moved .ensures,
+      e4 .if4 .left,
+      ← c .before .step-too-long .ensures,
+      c .if5 .taken,
+    )
+
+returns-6 : tie.Need-returns-6
+unfolding listVerdict verdict
+returns-6 c =
+    let e4 = c .before .before in
+    let e3 = e4 .before .before in
+    let e2 = e3 .before .before in
+    let e1 = e2 .before .before in
+    rw (
+      ← e1 .before .bad-list .ensures,
+      e1 .if1 .left,
+      ← e2 .before .place-outside .ensures,
+      e2 .if2 .left,
+      ← e3 .before .too-many .ensures,
+      e3 .if3 .left,
+      ← e4 .before .moved .ensures,
+      e4 .if4 .left,
+      ← c .before .step-too-long .ensures,
+      c .if5 .left,
+    )
+
+pub check-list-spec : {M : Type 1} → statement M
+check-list-spec =
+    tie.close
+    (tie.spec
+    bad-list-requires
+    returns
+    place-outside-requires
+    returns-2
+    too-many-requires
+    returns-3
+    moved-requires
+    returns-4
+    step-too-long-requires
+    returns-5
+    returns-6)

@@ -1,0 +1,26 @@
+-- Each format answers its own greatest step.
+use mathlib.Core.Path.{refl}
+use lib.IntN.{pos}
+use Rattle.rules.specs.Lists.{greatestStep}
+use Rattle.checks.proofs.Arms.{pes-pec, exp-jef}
+use borrow.Author.Needs.{needs}
+use Rattle.checks.proofs.greatest_step.Statement.{statement}
+use Rattle.checks.proofs.greatest_step.Tie as tie
+
+enum-told : tie.Need-enum-told
+enum-told c = search needs
+
+returns : tie.Need-returns
+unfolding greatestStep
+returns c = pes-pec greatestStep (pos 2047) refl refl (c .before .args .f) (c .match .keys1)
+
+returns-2 : tie.Need-returns-2
+unfolding greatestStep
+returns-2 c = rw (c .enum-told .given .1)
+
+returns-3 : tie.Need-returns-3
+unfolding greatestStep
+returns-3 c = exp-jef greatestStep (pos 127) refl refl (c .before .args .f) (c .match .keys3)
+
+pub greatest-step-spec : {M : Type 1} → statement M
+greatest-step-spec = tie.close (tie.spec enum-told returns returns-2 returns-3)

@@ -1,0 +1,10 @@
+-- Two numbers of 32 bits are equal where their bits are.
+use Rattle.laws.specs.Ints.{eq-test}
+use Rattle.checks.proofs.is_same.Statement.{statement}
+use Rattle.checks.proofs.is_same.Tie as tie
+
+returns : tie.Need-returns
+returns c = eq-test (c .fits .a) (c .fits .b)
+
+pub is-same-spec : {M : Type 1} → statement M
+is-same-spec = tie.close (tie.spec returns)

@@ -1,0 +1,290 @@
+// What is asked of a list of commands and its threads before it is written: refusals 6 to 10.
+// Each check goes over the whole list, for slices of any lengths.
+use geom::span;
+use rules::Format;
+use rules::Op;
+use rules::Refusal;
+use rules::Verdict;
+ghost use mathlib.Core.Path.{_≡_};
+ghost use mathlib.Core.Bool.{_&&_, not};
+ghost use lib.Dec.{ltb};
+ghost use lib.IntN.{_-ℤ_};
+ghost use Rattle.rules.specs.Vocabulary.{between, eqZ, any, count};
+ghost use Rattle.rules.specs.Lists.{commands, opOf, endsOnce, placed, samePlace, isChange, stands, leastStep, greatestStep, stepIn};
+ghost use Rattle.rules.specs.Refusals.{numberOf, badList, placeOutside, changes, tooMany, moved, stepTooLong, listVerdict};
+
+// The number of a refusal.
+pub fn number(r: Refusal) -> u32
+    ensures { λ n. ⌜ n ≡ numberOf r ⌝ }
+{
+    match r {
+        Refusal::UnknownExtension => 1,
+        Refusal::FileTooLong => 2,
+        Refusal::NotPes => 3,
+        Refusal::FileTooShort => 4,
+        Refusal::StartBelowZero => 5,
+        Refusal::BadList => 6,
+        Refusal::PlaceOutside => 7,
+        Refusal::TooMany => 8,
+        Refusal::Moved => 9,
+        Refusal::StepTooLong => 10,
+        Refusal::BufferTooShort => 11,
+    }
+}
+
+fn is_between(lo: i64, hi: i64, z: i64) -> bool
+    ensures { λ r. ⌜ r ≡ between lo hi z ⌝ }
+{
+    if lo <= z { z <= hi } else { false }
+}
+
+fn is_same(a: i32, b: i32) -> bool
+    ensures { λ r. ⌜ r ≡ eqZ a b ⌝ }
+{
+    a == b
+}
+
+// 6: a kind over 4.
+fn kind_over(kinds: &[u8]) -> bool
+    ensures { λ r. ⌜ r ≡ any (ltb 4) (now (kinds .entry)) ⌝ }
+{
+    let mut i = 0;
+    while i < kinds.len() {
+        if 4 < kinds[i] {
+            return true;
+        }
+        i += 1;
+    }
+    false
+}
+
+// 6: the last kind, and only that, is an end.
+fn ends_once(kinds: &[u8]) -> bool
+    ensures { λ r. ⌜ r ≡ endsOnce (now (kinds .entry)) ⌝ }
+{
+    if kinds.len() == 0 {
+        return false;
+    }
+    let mut i = 0;
+    while i + 1 < kinds.len() {
+        if kinds[i] == 4 {
+            return false;
+        }
+        i += 1;
+    }
+    kinds[i] == 4
+}
+
+pub fn bad_list(xs: &[i32], ys: &[i32], kinds: &[u8]) -> bool
+    ensures { λ r. ⌜ r ≡ badList (now (xs .entry)) (now (ys .entry)) (now (kinds .entry)) ⌝ }
+{
+    let n = kinds.len();
+    if n == 0 {
+        return true;
+    }
+    if 65535 < n {
+        return true;
+    }
+    if xs.len() != n {
+        return true;
+    }
+    if ys.len() != n {
+        return true;
+    }
+    if kind_over(kinds) {
+        return true;
+    }
+    !ends_once(kinds)
+}
+
+fn is_placed(x: i32, y: i32) -> bool
+    ensures { λ r. ⌜ r ≡ placed x y ⌝ }
+{
+    if is_between(-16000, 16000, x as i64) {
+        return is_between(-16000, 16000, y as i64);
+    }
+    false
+}
+
+// 7: a place outside the range.
+pub fn place_outside(xs: &[i32], ys: &[i32], kinds: &[u8]) -> bool
+    ensures { λ r. ⌜ r ≡ placeOutside (commands (now (xs .entry)) (now (ys .entry)) (now (kinds .entry))) ⌝ }
+{
+    let n = formats::list_len(xs, ys, kinds);
+    let mut i = 0;
+    while i < n {
+        if !is_placed(xs[i], ys[i]) {
+            return true;
+        }
+        i += 1;
+    }
+    false
+}
+
+fn is_change(kind: u8) -> bool
+    ensures { λ r. ⌜ r ≡ isChange (opOf kind) ⌝ }
+{
+    let op = formats::op_of(kind);
+    match op {
+        Op::ColorChange => true,
+        Op::Stitch | Op::Jump | Op::Trim | Op::End => false,
+    }
+}
+
+// How many commands change the colour.
+pub fn color_changes(xs: &[i32], ys: &[i32], kinds: &[u8]) -> usize
+    ensures { λ r. ⌜ r ≡ count changes (commands (now (xs .entry)) (now (ys .entry)) (now (kinds .entry))) ⌝ }
+{
+    let n = formats::list_len(xs, ys, kinds);
+    let mut found = 0;
+    let mut i = 0;
+    while i < n {
+        if is_change(kinds[i]) {
+            found += 1;
+        }
+        i += 1;
+    }
+    found
+}
+
+// 8: too many colour changes or threads, or thread bytes not a multiple of three.
+pub fn too_many(xs: &[i32], ys: &[i32], kinds: &[u8], threads: &[u8]) -> bool
+    ensures { λ r. ⌜ r ≡ tooMany (commands (now (xs .entry)) (now (ys .entry)) (now (kinds .entry))) (now (threads .entry)) ⌝ }
+{
+    if 254 < color_changes(xs, ys, kinds) {
+        return true;
+    }
+    if 255 < threads.len() / 3 {
+        return true;
+    }
+    threads.len() % 3 != 0
+}
+
+fn is_standing(kind: u8) -> bool
+    ensures { λ r. ⌜ r ≡ stands (opOf kind) ⌝ }
+{
+    let op = formats::op_of(kind);
+    match op {
+        Op::Stitch | Op::Jump => false,
+        Op::Trim | Op::ColorChange | Op::End => true,
+    }
+}
+
+fn is_same_place(x0: i32, y0: i32, x: i32, y: i32) -> bool
+    ensures { λ r. ⌜ r ≡ samePlace x0 y0 x y ⌝ }
+{
+    if is_same(x0, x) {
+        return is_same(y0, y);
+    }
+    false
+}
+
+fn moves(kind: u8, x0: i32, y0: i32, x: i32, y: i32) -> bool
+    ensures { λ r. ⌜ r ≡ (stands (opOf kind) && not (samePlace x0 y0 x y)) ⌝ }
+{
+    if is_standing(kind) {
+        return !is_same_place(x0, y0, x, y);
+    }
+    false
+}
+
+// 9: a trim, colour change or end that moves.
+pub fn moved(xs: &[i32], ys: &[i32], kinds: &[u8]) -> bool
+    ensures { λ r. ⌜ r ≡ moved (commands (now (xs .entry)) (now (ys .entry)) (now (kinds .entry))) ⌝ }
+{
+    let n = formats::list_len(xs, ys, kinds);
+    let mut x: i32 = 0;
+    let mut y: i32 = 0;
+    let mut i = 0;
+    while i < n {
+        let nx = xs[i];
+        let ny = ys[i];
+        if moves(kinds[i], x, y, nx, ny) {
+            return true;
+        }
+        x = nx;
+        y = ny;
+        i += 1;
+    }
+    false
+}
+
+fn least_step(f: Format) -> i64
+    ensures { λ r. ⌜ r ≡ leastStep f ⌝ }
+{
+    match f {
+        Format::Pes | Format::Pec => -2048,
+        Format::Dst => -121,
+        Format::Exp | Format::Jef => -127,
+    }
+}
+
+fn greatest_step(f: Format) -> i64
+    ensures { λ r. ⌜ r ≡ greatestStep f ⌝ }
+{
+    match f {
+        Format::Pes | Format::Pec => 2047,
+        Format::Dst => 121,
+        Format::Exp | Format::Jef => 127,
+    }
+}
+
+fn is_step_in(f: Format, dx: i64, dy: i64) -> bool
+    ensures { λ r. ⌜ r ≡ stepIn f dx dy ⌝ }
+{
+    let lo = least_step(f);
+    let hi = greatest_step(f);
+    if is_between(lo, hi, dx) {
+        return is_between(lo, hi, dy);
+    }
+    false
+}
+
+fn steps_past(f: Format, x0: i32, y0: i32, x: i32, y: i32) -> bool
+    ensures { λ r. ⌜ r ≡ not (stepIn f (x -ℤ x0) (y -ℤ y0)) ⌝ }
+{
+    !is_step_in(f, span(x0, x), span(y0, y))
+}
+
+// 10: a step past the format's limit.
+pub fn step_too_long(f: Format, xs: &[i32], ys: &[i32], kinds: &[u8]) -> bool
+    ensures { λ r. ⌜ r ≡ stepTooLong f (commands (now (xs .entry)) (now (ys .entry)) (now (kinds .entry))) ⌝ }
+{
+    let n = formats::list_len(xs, ys, kinds);
+    let mut x: i32 = 0;
+    let mut y: i32 = 0;
+    let mut i = 0;
+    while i < n {
+        let nx = xs[i];
+        let ny = ys[i];
+        if steps_past(f, x, y, nx, ny) {
+            return true;
+        }
+        x = nx;
+        y = ny;
+        i += 1;
+    }
+    false
+}
+
+// The first of refusals 6 to 10 that holds, each over the whole list before the next.
+pub fn check_list(f: Format, xs: &[i32], ys: &[i32], kinds: &[u8], threads: &[u8]) -> Verdict
+    ensures { λ r. ⌜ r ≡ listVerdict f (now (xs .entry)) (now (ys .entry)) (now (kinds .entry)) (now (threads .entry)) ⌝ }
+{
+    if bad_list(xs, ys, kinds) {
+        return Verdict::Refused(Refusal::BadList);
+    }
+    if place_outside(xs, ys, kinds) {
+        return Verdict::Refused(Refusal::PlaceOutside);
+    }
+    if too_many(xs, ys, kinds, threads) {
+        return Verdict::Refused(Refusal::TooMany);
+    }
+    if moved(xs, ys, kinds) {
+        return Verdict::Refused(Refusal::Moved);
+    }
+    if step_too_long(f, xs, ys, kinds) {
+        return Verdict::Refused(Refusal::StepTooLong);
+    }
+    Verdict::Accepted
+}

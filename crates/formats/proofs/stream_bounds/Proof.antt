@@ -1,0 +1,129 @@
+-- `stream_bounds` meets its contract. The invariant: the bounds hold the places before i. Assumes nothing.
+use Prim.Native.Nat.{_<_, _≤_, _-_}
+use mathlib.Core.Path.{_≡_}
+use mathlib.Core.List.{[]}
+use borrow.Author.Count.{below-none, below-more}
+use denote.Ref.{now}
+use lib.IntN.{pos}
+use lib.ListN.{getD, length, drop}
+use mir.Syntax.{w32}
+use Rattle.rules.specs.Lists.{minZ, maxZ, least, greatest, minX, minY, maxX, maxY, commands}
+use Rattle.laws.specs.Ints.{ret}
+use Rattle.laws.specs.Listing.{list-end, cmdAt, length-commands, commands-more}
+use Rattle.geom.specs.Frames.{boundsOf}
+use native.Mathlib.Omega.{arith}
+use borrow.Author.Needs.{needs}
+use Rattle.formats.proofs.Framing.{Framing, framing-start, framing-more, framing-done, Read}
+use Rattle.formats.proofs.stream_bounds.Statement.{statement}
+use Rattle.formats.proofs.stream_bounds.Tie as tie
+
+abbrev Inv-loop : tie.InvT-loop
+Inv-loop xs ys kinds n b₀ i₀ b i = (i ≤ n) × (Framing (commands xs ys kinds) b (drop i (commands xs ys kinds)) × (Read xs i × Read ys i))
+
+abbrev μ-loop : tie.MeasureT-loop
+μ-loop xs ys kinds n b₀ i₀ b i = n - i
+
+list-len-requires : tie.Need-list-len-requires Inv-loop μ-loop
+list-len-requires c κs = search needs
+
+empty-requires : tie.Need-empty-requires Inv-loop μ-loop
+empty-requires c κs = search needs
+
+new-requires : tie.Need-new-requires Inv-loop μ-loop
+new-requires c κs = search needs
+
+add-requires : tie.Need-add-requires Inv-loop μ-loop
+add-requires c κs = search needs
+
+returns : tie.Need-returns Inv-loop μ-loop
+unfolding boundsOf minX minY maxX maxY least greatest minZ maxZ
+returns c =
+    let a = c .before .before .before .before .before .before .args in
+    let cs = commands (now (a .xs)) (now (a .ys)) (now (a .kinds)) in
+    let e : cs ≡ [] = list-end cs 0 (omega (arith, c .before .before .before .before .list-len .ensures)) in
+    rw (e, c .add .ensures, c .before .new .ensures, c .before .before .empty .ensures)
+
+empty-requires-2 : tie.Need-empty-requires-2 Inv-loop μ-loop
+empty-requires-2 c κs = search needs
+
+loop-holds : tie.Need-loop-holds Inv-loop μ-loop
+loop-holds c =
+    let a = c .before .before .before .before .args in
+    (omega arith, (rw (c .empty2 .ensures) (framing-start (commands (now (a .xs)) (now (a .ys)) (now (a .kinds)))), (below-none _, below-none _)))
+
+-- the turn's index is that of a command
+inside : (c : tie.In-loop Inv-loop μ-loop) → c .before .loop .i < length (commands (now ((c .before .before .before .before .before .before .args) .xs)) (now ((c .before .before .before .before .before .before .args) .ys)) (now ((c .before .before .before .before .before .before .args) .kinds)))
+inside c = omega (arith, c .before .before .before .before .list-len .ensures)
+
+shared-slice-copy-out-new : tie.Need-shared-slice-copy-out-new Inv-loop μ-loop
+shared-slice-copy-out-new c = omega (arith, inside c, length-commands (now ((c .before .before .before .before .before .before .args) .xs)) (now ((c .before .before .before .before .before .before .args) .ys)) (now ((c .before .before .before .before .before .before .args) .kinds)))
+
+mul-new : tie.Need-mul-new Inv-loop μ-loop
+mul-new c = let h = shared-slice-copy-out-new c in omega (arith, c .before .before .before .before .before .before .good)
+
+shared-slice-copy-out-new-2 : tie.Need-shared-slice-copy-out-new-2 Inv-loop μ-loop
+shared-slice-copy-out-new-2 c = omega (arith, inside (c .before), length-commands (now ((c .before .before .before .before .before .before .before .args) .xs)) (now ((c .before .before .before .before .before .before .before .args) .ys)) (now ((c .before .before .before .before .before .before .before .args) .kinds)))
+
+mul-new-2 : tie.Need-mul-new-2 Inv-loop μ-loop
+mul-new-2 c = let h = shared-slice-copy-out-new-2 c in omega (arith, c .before .before .before .before .before .before .before .good)
+
+new-requires-2 : tie.Need-new-requires-2 Inv-loop μ-loop
+new-requires-2 c κs = search needs
+
+add-requires-2 : tie.Need-add-requires-2 Inv-loop μ-loop
+add-requires-2 c κs = search needs
+
+add-i : tie.Need-add-i Inv-loop μ-loop
+add-i c = omega arith
+
+loop-less : tie.Need-loop-less Inv-loop μ-loop
+loop-less c = omega arith
+
+loop-again : tie.Need-loop-again Inv-loop μ-loop
+loop-again c =
+    let a = c .before .before .before .before .before .before .before .before .before .before .args in
+    let l = c .before .before .before .before .before .loop in
+    let h = inside (c .before .before .before .before) in
+    let x = c .before .before .before .new-arg .given in
+    let y = c .before .before .new-arg2 .given in (
+      omega (arith, h, c .before .before .before .before .before .before .before .before .list-len .ensures),
+      (
+        rw (c .add2 .ensures, c .before .new2 .ensures, ret w32 (getD (now (a .xs)) (l .i) (pos 0)) x, ret w32 (getD (now (a .ys)) (l .i) (pos 0)) y)
+            (framing-more (cmdAt (now (a .xs)) (now (a .ys)) (now (a .kinds)) (l .i)) (l .inv .1 .0) (commands-more (now (a .xs)) (now (a .ys)) (now (a .kinds)) (l .i) h)),
+        (below-more _ (l .i) (l .inv .1 .1 .0) x, below-more _ (l .i) (l .inv .1 .1 .1) y),
+      ),
+    )
+
+returns-2 : tie.Need-returns-2 Inv-loop μ-loop
+returns-2 c =
+    let a = c .before .before .before .before .before .before .args in
+    let l = c .before .loop in
+    let cs = commands (now (a .xs)) (now (a .ys)) (now (a .kinds)) in
+    let n : length cs ≡ l .i = omega (arith, c .before .before .before .before .list-len .ensures) in
+    let some : 0 < l .i = omega (arith, c .before .before .before .if1 .left) in
+    let h : 0 < length cs = omega arith in
+    framing-done (cmdAt (now (a .xs)) (now (a .ys)) (now (a .kinds)) 0) (commands-more (now (a .xs)) (now (a .ys)) (now (a .kinds)) 0 h) (l .inv .1 .1 .0 0 some) (l .inv .1 .1 .1 0 some) (rw (list-end cs (l .i) (omega arith)) at (l .inv .1 .0))
+
+pub stream-bounds-spec : {M : Type 1} → statement M
+stream-bounds-spec =
+    tie.close
+    (tie.spec
+    Inv-loop
+    μ-loop
+    list-len-requires
+    empty-requires
+    new-requires
+    add-requires
+    returns
+    empty-requires-2
+    loop-holds
+    mul-new
+    shared-slice-copy-out-new
+    mul-new-2
+    shared-slice-copy-out-new-2
+    new-requires-2
+    add-requires-2
+    add-i
+    loop-less
+    loop-again
+    returns-2)

@@ -1,0 +1,82 @@
+-- `weighed` meets its contract: each product fits. Assumes nothing.
+use Prim.Native.Nat.{ℕ, _+_, _-_, _*_, _≤_}
+use mathlib.Core.Path.{refl}
+use native.Mathlib.Omega.{arith}
+use native.Mathlib.Nat.{mul-le-mul}
+use Rattle.rules.specs.Choices.{weighed}
+use borrow.Author.Needs.{needs}
+use Rattle.formats.proofs.weighed.Statement.{statement}
+use Rattle.formats.proofs.weighed.Tie as tie
+use Rattle.formats.proofs.weighed.Reads as reads
+use Rattle.formats.proofs.weighed.Lts as lts
+
+square : {n : ℕ} → n ≤ 255 → n * n ≤ 65025
+square h = mul-le-mul h h
+
+abbrev Start : Type 0
+Start = lts.Start reads.Pre reads.Post
+
+red : (c : Start) → c .args .r * c .args .r ≤ 65025
+red c = square (c .pre .1 .0)
+
+green : (c : Start) → c .args .g * c .args .g ≤ 65025
+green c = square (c .pre .1 .1 .0)
+
+blue : (c : Start) → c .args .b * c .args .b ≤ 65025
+blue c = square (c .pre .1 .1 .1)
+
+reds : (c : Start) → (512 + c .args .m) * (c .args .r * c .args .r) ≤ 49874175
+reds c = mul-le-mul {n₂ = 767} (omega (arith, c .pre .0)) (red c)
+
+blues : (c : Start) → (767 - c .args .m) * (c .args .b * c .args .b) ≤ 49874175
+blues c = mul-le-mul {n₂ = 767} (omega arith) (blue c)
+
+add-result : tie.Need-add-result
+add-result c = search needs
+
+mul-result : tie.Need-mul-result
+mul-result c = record { fits = omega (arith, red c) }
+
+mul-result-2 : tie.Need-mul-result-2
+mul-result-2 c = record { fits = omega (arith, reds c) }
+
+mul-result-3 : tie.Need-mul-result-3
+mul-result-3 c = record { fits = omega (arith, green c) }
+
+mul-result-4 : tie.Need-mul-result-4
+mul-result-4 c = record { fits = omega (arith, green c) }
+
+add-result-2 : tie.Need-add-result-2
+add-result-2 c = record { fits = omega (arith, reds c, green c) }
+
+sub-result : tie.Need-sub-result
+sub-result c = search needs
+
+mul-result-5 : tie.Need-mul-result-5
+mul-result-5 c = record { fits = omega (arith, blue c) }
+
+mul-result-6 : tie.Need-mul-result-6
+mul-result-6 c = record { fits = omega (arith, blues c) }
+
+add-result-3 : tie.Need-add-result-3
+add-result-3 c = record { fits = omega (arith, reds c, green c, blues c) }
+
+returns : tie.Need-returns
+unfolding weighed
+returns c = refl
+
+pub weighed-spec : {M : Type 1} → statement M
+weighed-spec =
+    tie.close
+    (tie.spec
+    add-result
+    mul-result
+    mul-result-2
+    mul-result-3
+    mul-result-4
+    add-result-2
+    sub-result
+    mul-result-5
+    mul-result-6
+    add-result-3
+    returns)

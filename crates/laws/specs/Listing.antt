@@ -1,0 +1,90 @@
+-- Laws for loops over a list: what is left at i is the element at i and what is left at i + 1. For any list, and for the list of commands that three slices hold.
+-- Assumes nothing.
+use Prim.Native.Nat.{ℕ, zero, suc, _+_, _≤_, _<_, min, suc-le-suc}
+use mathlib.Core.Path.{_≡_, refl, sym, ap, _∙_}
+use mathlib.Core.Bool.{Bool, true, false, _||_}
+use mathlib.Core.List.{List, [], _∷_}
+use native.Mathlib.Nat.{le-of-suc-le-suc, not-suc-le-zero, add-assoc}
+use native.Mathlib.Numerals.{add-one}
+use native.Mathlib.Omega.{arith}
+use lib.ListN.{length, getD, drop, drop-of-length-le}
+use lib.Seq.{drop-cons}
+use lib.IntN.{ℤ, pos}
+use Rattle.rules.specs.Vocabulary.{pick, any, count}
+use Rattle.rules.specs.Lists.{commands, anyFrom}
+use Rattle.rules.specs.declared.Cmd.{Cmd}
+
+-- one more element
+pub list-more : {A : Type 0} (s : List A) (d : A) (i : ℕ) → i < length s → drop i s ≡ getD s i d ∷ drop (i + 1) s
+list-more s d i h = rw add-one (drop-cons s i d h)
+
+-- no more
+pub list-end : {A : Type 0} (s : List A) (i : ℕ) → length s ≤ i → drop i s ≡ []
+list-end s i h = drop-of-length-le s {i = i} h
+
+-- A loop that looks for an element that passes. Its invariant: `whole`, what is to be told, is what the elements left tell.
+-- An element that passes, one that does not, and the end:
+module _ {A : Type 0} (p : A → Bool) (s : List A) (d : A) (i : ℕ) {whole : Bool} (w : whole ≡ any p (drop i s)) where
+  pub any-hit : i < length s → p (getD s i d) ≡ true → true ≡ whole
+  unfolding any
+  any-hit h e = sym (w ∙ rw (list-more s d i h, e))
+
+  pub any-miss : i < length s → p (getD s i d) ≡ false → whole ≡ any p (drop (i + 1) s)
+  unfolding any
+  any-miss h e = w ∙ rw (list-more s d i h, e)
+
+  pub any-end : length s ≤ i → false ≡ whole
+  unfolding any
+  any-end h = sym (w ∙ rw (list-end s i h))
+
+-- the same where the test is told the place before
+module _ (p : ℤ → ℤ → Cmd → Bool) (s : List Cmd) (d : Cmd) (i : ℕ) (x y : ℤ) {whole : Bool} (w : whole ≡ anyFrom p x y (drop i s)) where
+  pub from-hit : i < length s → p x y (getD s i d) ≡ true → true ≡ whole
+  unfolding anyFrom
+  from-hit h e = sym (w ∙ rw (list-more s d i h, e))
+
+  pub from-miss : i < length s → p x y (getD s i d) ≡ false → whole ≡ anyFrom p (getD s i d .x) (getD s i d .y) (drop (i + 1) s)
+  unfolding anyFrom
+  from-miss h e = w ∙ rw (list-more s d i h, e)
+
+  pub from-end : length s ≤ i → false ≡ whole
+  unfolding anyFrom
+  from-end h = sym (w ∙ rw (list-end s i h))
+
+-- a loop that counts: n so far
+module _ {A : Type 0} (p : A → Bool) (s : List A) (d : A) (i n : ℕ) {whole : ℕ} (w : whole ≡ n + count p (drop i s)) where
+  pub count-more : (t : Bool) → i < length s → p (getD s i d) ≡ t → whole ≡ n + pick t 1 0 + count p (drop (i + 1) s)
+  unfolding count
+  count-more t h e = w ∙ rw (list-more s d i h, e, add-assoc)
+
+  pub count-end : length s ≤ i → n ≡ whole
+  unfolding count
+  count-end h = sym (w ∙ rw (list-end s i h) (omega arith))
+
+-- ---- a list held in three slices
+
+abbrev pub cmdAt : List ℤ → List ℤ → List ℕ → ℕ → Cmd
+cmdAt xs ys ks i = record { x = getD xs i (pos 0); y = getD ys i (pos 0); kind = getD ks i 0 }
+
+abbrev pub noCmd : Cmd
+noCmd = record { x = pos 0; y = pos 0; kind = 0 }
+
+-- as many commands as the shortest slice has elements
+pub length-commands : (xs ys : List ℤ) (ks : List ℕ) → length (commands xs ys ks) ≡ min (length xs) (min (length ys) (length ks))
+unfolding commands
+length-commands [] ys ks = omega arith
+length-commands (x ∷ xs) [] ks = omega arith
+length-commands (x ∷ xs) (y ∷ ys) [] = omega arith
+length-commands (x ∷ xs) (y ∷ ys) (k ∷ ks) = omega (arith, length-commands xs ys ks)
+
+pub commands-at : (xs ys : List ℤ) (ks : List ℕ) (i : ℕ) → i < length (commands xs ys ks) → getD (commands xs ys ks) i noCmd ≡ cmdAt xs ys ks i
+unfolding commands
+commands-at [] ys ks i h = absurd (not-suc-le-zero h)
+commands-at (x ∷ xs) [] ks i h = absurd (not-suc-le-zero h)
+commands-at (x ∷ xs) (y ∷ ys) [] i h = absurd (not-suc-le-zero h)
+commands-at (x ∷ xs) (y ∷ ys) (k ∷ ks) zero h = refl
+commands-at (x ∷ xs) (y ∷ ys) (k ∷ ks) (suc i) h = commands-at xs ys ks i (le-of-suc-le-suc h)
+
+-- one more command
+pub commands-more : (xs ys : List ℤ) (ks : List ℕ) (i : ℕ) → i < length (commands xs ys ks) → drop i (commands xs ys ks) ≡ cmdAt xs ys ks i ∷ drop (i + 1) (commands xs ys ks)
+commands-more xs ys ks i h = list-more (commands xs ys ks) noCmd i h ∙ rw (commands-at xs ys ks i h)

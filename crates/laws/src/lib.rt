@@ -1,0 +1,1 @@
+// Lemmas stand in specs/; there is no code here.

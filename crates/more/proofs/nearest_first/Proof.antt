@@ -1,0 +1,63 @@
+-- `nearest_first` meets its contract, as `nearest_index` does. Assumes nothing.
+use mathlib.Core.Path.{_≡_, refl, sym}
+use lib.ListN.{length, getD}
+use Rattle.rules.specs.declared.Slot.the-variants.{Empty}
+use Prim.Native.Nat.{_≤_, _-_}
+use mathlib.Core.Bool.{false}
+use native.Mathlib.Omega.{arith}
+use borrow.Author.Needs.{needs}
+use Rattle.laws.specs.Choosing.{Leading, leading-none, leading-more, choice-is}
+use Rattle.more.proofs.nearest_first.Statement.{statement}
+use Rattle.more.proofs.nearest_first.Tie as tie
+
+abbrev Inv-loop : tie.InvT-loop
+Inv-loop color palette best₀ i₀ best i = (i ≤ 79) × Leading false color palette i (best .at) (best .distance)
+
+abbrev μ-loop : tie.MeasureT-loop
+μ-loop color palette best₀ i₀ best i = 79 - i
+
+loop-holds : tie.Need-loop-holds Inv-loop μ-loop
+loop-holds c = (omega arith, leading-none false (c .args .color) (c .args .t2) 0)
+
+mul-closer : tie.Need-mul-closer Inv-loop μ-loop
+mul-closer c = search needs
+
+array-copy-out-closer : tie.Need-array-copy-out-closer Inv-loop μ-loop
+array-copy-out-closer c = search needs
+
+closer-requires : tie.Need-closer-requires Inv-loop μ-loop
+closer-requires c κs = search needs
+
+add-i : tie.Need-add-i Inv-loop μ-loop
+add-i c = omega arith
+
+loop-less : tie.Need-loop-less Inv-loop μ-loop
+loop-less c = omega arith
+
+loop-again : tie.Need-loop-again Inv-loop μ-loop
+loop-again c =
+    let a = c .before .before .before .before .args in
+    let l = c .before .before .before .loop in
+    (omega arith, rw (c .closer .ensures) (leading-more (a .color) (a .t2) (l .i) false (getD (a .t2) (l .i) Empty) refl (l .inv .1)))
+
+returns : tie.Need-returns Inv-loop μ-loop
+returns c =
+    let a = c .before .before .args in
+    let l = c .before .loop in
+    let e : l .i ≡ length (a .t2) = omega arith in
+    sym (choice-is false (a .color) (a .t2) (rw e at (l .inv .1)))
+
+pub nearest-first-spec : {M : Type 1} → statement M
+nearest-first-spec =
+    tie.close
+    (tie.spec
+    Inv-loop
+    μ-loop
+    loop-holds
+    mul-closer
+    array-copy-out-closer
+    closer-requires
+    add-i
+    loop-less
+    loop-again
+    returns)

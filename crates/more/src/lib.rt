@@ -1,0 +1,85 @@
+// JEF: the entry of the chart for each thread.
+use formats::Best;
+use rules::Color;
+use rules::Found;
+use rules::Previous;
+use rules::Slot;
+ghost use mathlib.Core.Path.{_≡_};
+ghost use lib.ListN.{set};
+ghost use Rattle.rules.specs.Choices.{nearestFirst, jefPalette, entryOf, jefNearest, jefChoice};
+ghost use Rattle.rules.specs.declared.Slot.the-variants.{Empty};
+
+// The entries of the chart that may be chosen.
+pub fn jef_threads() -> [Slot; 79]
+    ensures { λ r. ⌜ r ≡ jefPalette ⌝ }
+{
+    let mut out = [Slot::Empty; 79];
+    let mut i = 1;
+    while i < 79 {
+        out[i] = Slot::Thread(jef_data::jef_thread(i));
+        i += 1;
+    }
+    out
+}
+
+// A palette with one entry left out.
+fn without(palette: [Slot; 79], skip: usize) -> [Slot; 79]
+    ensures { λ r. ⌜ r ≡ set palette skip Empty ⌝ }
+{
+    let mut out = palette;
+    if 79 <= skip {
+        return out;
+    }
+    out[skip] = Slot::Empty;
+    out
+}
+
+// The entry at the least distance; of equal distances the first.
+fn nearest_first(color: Color, palette: [Slot; 79]) -> Found
+    ensures { λ r. ⌜ r ≡ nearestFirst color palette ⌝ }
+{
+    let mut best = Best {
+        at: Found::Missing,
+        distance: 0,
+    };
+    let mut i = 0;
+    while i < 79 {
+        best = formats::closer(false, color, best, palette[i], i);
+        i += 1;
+    }
+    best.at
+}
+
+fn entry_of(f: Found) -> usize
+    ensures { λ r. ⌜ r ≡ entryOf f ⌝ }
+{
+    match f {
+        Found::At(i) => i,
+        Found::Missing => 1,
+    }
+}
+
+// The nearest entry but one; entry 0, which is never chosen, leaves out none.
+fn jef_nearest(t: Color, skip: usize) -> usize
+    ensures { λ r. ⌜ r ≡ jefNearest t skip ⌝ }
+{
+    let palette = without(jef_threads(), skip);
+    entry_of(nearest_first(t, palette))
+}
+
+// The entry for a thread: the nearest, but never that of a neighbour of another colour.
+pub fn jef_choice(last: Previous, t: Color) -> usize
+    ensures { λ r. ⌜ r ≡ jefChoice last t ⌝ }
+{
+    let nearest = jef_nearest(t, 0);
+    let Previous::Entry(i, u) = last else {
+        return nearest;
+    };
+    if nearest != i {
+        return nearest;
+    }
+    if formats::same_color(u, t) {
+        return nearest;
+    }
+    jef_nearest(t, i)
+}

@@ -1,0 +1,19 @@
+-- The chart of the code is the chart of the definitions, at every entry. Assumes nothing.
+use mathlib.Core.Path.{refl}
+use Rattle.rules.specs.Charts.{pecChart}
+use borrow.Author.Needs.{needs}
+use Rattle.pec_data.proofs.pec_thread.Statement.{statement}
+use Rattle.pec_data.proofs.pec_thread.Tie as tie
+
+mul-result : tie.Need-mul-result
+mul-result c = search needs
+
+array-copy-out-result : tie.Need-array-copy-out-result
+array-copy-out-result c = search needs
+
+returns : tie.Need-returns
+unfolding pecChart
+returns c = refl
+
+pub pec-thread-spec : {M : Type 1} → statement M
+pec-thread-spec = tie.close (tie.spec mul-result array-copy-out-result returns)

@@ -1,0 +1,120 @@
+-- Domain: a list of commands, its places and its steps.
+use Prim.Native.Nat.{ℕ, zero, suc}
+use mathlib.Core.Bool.{Bool, true, false, _&&_, _||_, not}
+use mathlib.Core.List.{List, [], _∷_, map}
+use lib.Dec.{eqb}
+use lib.IntN.{ℤ, pos, negℤ}
+use lib.Signed.{leZ}
+use Rattle.rules.specs.Vocabulary.{pick, eqZ, between}
+use Rattle.rules.specs.declared.Cmd.{Cmd}
+use Rattle.rules.specs.declared.Op.{Op}
+use Rattle.rules.specs.declared.Op.the-variants.{Stitch, Jump, Trim, ColorChange, End}
+use Rattle.rules.specs.declared.Format.{Format}
+use Rattle.rules.specs.declared.Format.the-variants.{Pes, Pec, Dst, Exp, Jef}
+
+-- kinds 0 to 4: stitch, jump, trim, colour change, end (a kind over 4 is refused)
+unfoldable pub opOf : ℕ → Op
+opOf zero = Stitch
+opOf (suc zero) = Jump
+opOf (suc (suc zero)) = Trim
+opOf (suc (suc (suc zero))) = ColorChange
+opOf (suc (suc (suc (suc n)))) = End
+
+-- the list that three slices hold, as far as all three go
+unfoldable pub commands : List ℤ → List ℤ → List ℕ → List Cmd
+commands [] ys kinds = []
+commands (x ∷ xs) [] kinds = []
+commands (x ∷ xs) (y ∷ ys) [] = []
+commands (x ∷ xs) (y ∷ ys) (k ∷ kinds) = record { x = x; y = y; kind = k } ∷ commands xs ys kinds
+
+-- the last kind, and only that, is an end
+unfoldable pub endsOnce : List ℕ → Bool
+endsOnce [] = false
+endsOnce (k ∷ []) = eqb k 4
+endsOnce (k ∷ l ∷ kinds) = not (eqb k 4) && endsOnce (l ∷ kinds)
+
+-- a place from -16,000 to 16,000 on both axes
+unfoldable pub placed : ℤ → ℤ → Bool
+placed x y = between (negℤ (pos 16000)) (pos 16000) x && between (negℤ (pos 16000)) (pos 16000) y
+
+-- two places are one
+unfoldable pub samePlace : ℤ → ℤ → ℤ → ℤ → Bool
+samePlace x y x′ y′ = eqZ x x′ && eqZ y y′
+
+-- a colour change
+unfoldable pub isChange : Op → Bool
+isChange Stitch = false
+isChange Jump = false
+isChange Trim = false
+isChange ColorChange = true
+isChange End = false
+
+-- trim, colour change and end stand where the command before stood
+unfoldable pub stands : Op → Bool
+stands Stitch = false
+stands Jump = false
+stands Trim = true
+stands ColorChange = true
+stands End = true
+
+-- some command passes the test p, which is told the place before it: (x, y) before the first
+unfoldable pub anyFrom : (ℤ → ℤ → Cmd → Bool) → ℤ → ℤ → List Cmd → Bool
+anyFrom p x y [] = false
+anyFrom p x y (c ∷ cs) = p x y c || anyFrom p (c .x) (c .y) cs
+
+-- steps: DST -121..121; EXP and JEF -127..127; PES and PEC -2,048..2,047
+unfoldable pub leastStep : Format → ℤ
+leastStep Pes = negℤ (pos 2048)
+leastStep Pec = negℤ (pos 2048)
+leastStep Dst = negℤ (pos 121)
+leastStep Exp = negℤ (pos 127)
+leastStep Jef = negℤ (pos 127)
+
+unfoldable pub greatestStep : Format → ℤ
+greatestStep Pes = pos 2047
+greatestStep Pec = pos 2047
+greatestStep Dst = pos 121
+greatestStep Exp = pos 127
+greatestStep Jef = pos 127
+
+-- a step is the change of place on one axis: both are within the format's limits
+unfoldable pub stepIn : Format → ℤ → ℤ → Bool
+stepIn f dx dy = between (leastStep f) (greatestStep f) dx && between (leastStep f) (greatestStep f) dy
+
+-- the smaller and the larger of two
+unfoldable pub minZ : ℤ → ℤ → ℤ
+minZ a b = pick (leZ a b) a b
+
+unfoldable pub maxZ : ℤ → ℤ → ℤ
+maxZ a b = pick (leZ a b) b a
+
+-- the least and the greatest of z and a list
+unfoldable pub leastFrom : ℤ → List ℤ → ℤ
+leastFrom z [] = z
+leastFrom z (x ∷ xs) = leastFrom (minZ z x) xs
+
+unfoldable pub greatestFrom : ℤ → List ℤ → ℤ
+greatestFrom z [] = z
+greatestFrom z (x ∷ xs) = greatestFrom (maxZ z x) xs
+
+-- the least and the greatest of a list, 0 if it is empty
+unfoldable pub least : List ℤ → ℤ
+least [] = pos 0
+least (x ∷ xs) = leastFrom x xs
+
+unfoldable pub greatest : List ℤ → ℤ
+greatest [] = pos 0
+greatest (x ∷ xs) = greatestFrom x xs
+
+-- the bounds of a list of commands
+unfoldable pub minX : List Cmd → ℤ
+minX cs = least (map (λ (c : Cmd). c .x) cs)
+
+unfoldable pub minY : List Cmd → ℤ
+minY cs = least (map (λ (c : Cmd). c .y) cs)
+
+unfoldable pub maxX : List Cmd → ℤ
+maxX cs = greatest (map (λ (c : Cmd). c .x) cs)
+
+unfoldable pub maxY : List Cmd → ℤ
+maxY cs = greatest (map (λ (c : Cmd). c .y) cs)

@@ -1,0 +1,75 @@
+// The vocabulary that the definitions of specs/ and the code share. There is no code here.
+
+// The five formats, named by their extensions.
+pub enum Format {
+    Pes,
+    Pec,
+    Dst,
+    Exp,
+    Jef,
+}
+
+// What an extension names.
+pub enum Extension {
+    Of(Format),
+    Unknown,
+}
+
+// What a command does. Kinds 0 to 4 stand for these in this order.
+pub enum Op {
+    Stitch,
+    Jump,
+    Trim,
+    ColorChange,
+    End,
+}
+
+// One machine command at an absolute place, in tenths of a millimetre.
+#[repr(C)]
+pub struct Cmd {
+    pub x: i32,
+    pub y: i32,
+    pub kind: u8,
+}
+
+// The colour of a thread: red, green, blue.
+pub struct Color(pub u8, pub u8, pub u8);
+
+// An entry of a palette: a thread that may be chosen, or none.
+pub enum Slot {
+    Empty,
+    Thread(Color),
+}
+
+// Where something stands in a list, if anywhere.
+pub enum Found {
+    At(usize),
+    Missing,
+}
+
+// The thread before in JEF's thread table, with the entry chosen for it, if there is one.
+pub enum Previous {
+    First,
+    Entry(usize, Color),
+}
+
+// Why a call refuses, in the order of the numbers 1 to 11.
+pub enum Refusal {
+    UnknownExtension,
+    FileTooLong,
+    NotPes,
+    FileTooShort,
+    StartBelowZero,
+    BadList,
+    PlaceOutside,
+    TooMany,
+    Moved,
+    StepTooLong,
+    BufferTooShort,
+}
+
+// What the checks say.
+pub enum Verdict {
+    Accepted,
+    Refused(Refusal),
+}
