@@ -11,3 +11,4 @@ pub mod Searches
 pub mod Choosing
 pub mod Listing
 pub mod Neighbours
+pub mod Reading

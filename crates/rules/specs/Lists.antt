@@ -1,12 +1,14 @@
 -- Domain: a list of commands, its places and its steps.
 use Prim.Native.Nat.{ℕ, zero, suc}
 use mathlib.Core.Bool.{Bool, true, false, _&&_, _||_, not}
-use mathlib.Core.List.{List, [], _∷_, map}
-use lib.Dec.{eqb}
-use lib.IntN.{ℤ, pos, negℤ}
+use mathlib.Core.List.{List, [], _∷_, _++_, map}
+use lib.Dec.{eqb, ltb, leb}
+use lib.IntN.{ℤ, pos, negℤ, natAbs, _-ℤ_}
+use lib.ListN.{take}
 use lib.Signed.{leZ}
-use Rattle.rules.specs.Vocabulary.{pick, eqZ, between}
+use Rattle.rules.specs.Vocabulary.{pick, eqZ, between, keep}
 use Rattle.rules.specs.declared.Cmd.{Cmd}
+use Rattle.rules.specs.declared.Color.{Color}
 use Rattle.rules.specs.declared.Op.{Op}
 use Rattle.rules.specs.declared.Op.the-variants.{Stitch, Jump, Trim, ColorChange, End}
 use Rattle.rules.specs.declared.Format.{Format}
@@ -49,6 +51,14 @@ isChange Trim = false
 isChange ColorChange = true
 isChange End = false
 
+-- a trim
+unfoldable pub isTrim : Op → Bool
+isTrim Stitch = false
+isTrim Jump = false
+isTrim Trim = true
+isTrim ColorChange = false
+isTrim End = false
+
 -- trim, colour change and end stand where the command before stood
 unfoldable pub stands : Op → Bool
 stands Stitch = false
@@ -61,6 +71,22 @@ stands End = true
 unfoldable pub anyFrom : (ℤ → ℤ → Cmd → Bool) → ℤ → ℤ → List Cmd → Bool
 anyFrom p x y [] = false
 anyFrom p x y (c ∷ cs) = p x y c || anyFrom p (c .x) (c .y) cs
+
+-- the bytes of the commands, one after the other: `cmd` gives those of one command by what it does and its step
+unfoldable pub written : (Op → ℤ → ℤ → List ℕ) → ℤ → ℤ → List Cmd → List ℕ
+written cmd x y [] = []
+written cmd x y (c ∷ cs) = cmd (opOf (c .kind)) (c .x -ℤ x) (c .y -ℤ y) ++ written cmd (c .x) (c .y) cs
+
+-- the place of the last command
+unfoldable pub lastX : List Cmd → ℤ
+lastX [] = pos 0
+lastX (c ∷ []) = c .x
+lastX (c ∷ d ∷ cs) = lastX (d ∷ cs)
+
+unfoldable pub lastY : List Cmd → ℤ
+lastY [] = pos 0
+lastY (c ∷ []) = c .y
+lastY (c ∷ d ∷ cs) = lastY (d ∷ cs)
 
 -- steps: DST -121..121; EXP and JEF -127..127; PES and PEC -2,048..2,047
 unfoldable pub leastStep : Format → ℤ
@@ -118,3 +144,23 @@ maxX cs = greatest (map (λ (c : Cmd). c .x) cs)
 
 unfoldable pub maxY : List Cmd → ℤ
 maxY cs = greatest (map (λ (c : Cmd). c .y) cs)
+
+unfoldable pub width : List Cmd → ℕ
+width cs = natAbs (maxX cs -ℤ minX cs)
+
+unfoldable pub height : List Cmd → ℕ
+height cs = natAbs (maxY cs -ℤ minY cs)
+
+-- threads, three bytes each
+unfoldable pub threadsOf : List ℕ → List Color
+threadsOf [] = []
+threadsOf (r ∷ []) = []
+threadsOf (r ∷ g ∷ []) = []
+threadsOf (r ∷ g ∷ b ∷ bytes) = record { 0 = r; 1 = g; 2 = b } ∷ threadsOf bytes
+
+-- a name: bytes from 128 up are dropped, for DST also 0x00..0x1F and 0x7F; then PEC keeps 8 and DST 16
+unfoldable pub pecName : List ℕ → List ℕ
+pecName name = take 8 (keep (λ (b : ℕ). ltb b 0x80) name)
+
+unfoldable pub dstName : List ℕ → List ℕ
+dstName name = take 16 (keep (λ (b : ℕ). leb 0x20 b && ltb b 0x7F) name)

@@ -37,6 +37,11 @@ unfoldable pub count : {A : Type 0} → (A → Bool) → List A → ℕ
 count p [] = 0
 count p (x ∷ xs) = pick (p x) 1 0 + count p xs
 
+-- the elements that pass the test p
+unfoldable pub keep : {A : Type 0} → (A → Bool) → List A → List A
+keep p [] = []
+keep p (x ∷ xs) = pick (p x) (x ∷ keep p xs) (keep p xs)
+
 -- one place further on
 unfoldable pub next : Found → Found
 next (At i) = At (suc i)

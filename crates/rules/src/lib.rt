@@ -73,3 +73,19 @@ pub enum Verdict {
     Accepted,
     Refused(Refusal),
 }
+
+// What the first record of a list of bytes does, by how far it moves, and the bytes it takes.
+pub enum Record {
+    StitchBy { dx: i32, dy: i32, len: usize },
+    JumpBy { dx: i32, dy: i32, len: usize },
+    ChangeBy { dx: i32, dy: i32, len: usize },
+    // The end mark, an unknown control, or too few bytes for a record.
+    Finish,
+}
+
+// The scale and the two offsets of a thumbnail.
+pub struct Scale {
+    pub scale: f64,
+    pub tx: f64,
+    pub ty: f64,
+}

@@ -1,0 +1,135 @@
+-- DST: 512 header bytes, then records of three.
+use Prim.Native.Nat.{ℕ, zero, suc, _+_, _*_, _/_, _%_, _^_}
+use mathlib.Core.Bool.{Bool, true, false}
+use mathlib.Core.List.{List, [], _∷_, _++_}
+use lib.IntN.{ℤ, pos, negℤ, natAbs, _+ℤ_, _-ℤ_}
+use lib.Signed.{ltZ, nonNeg}
+use lib.Bits.{bitAnd}
+use lib.Dec.{eqb}
+use lib.ListN.{length, replicate}
+use Rattle.rules.specs.Vocabulary.{pick, count, joined, right, padded}
+use Rattle.rules.specs.Lists.{opOf, isChange, isTrim, written, lastX, lastY, minX, minY, maxX, maxY, dstName}
+use Rattle.rules.specs.declared.Cmd.{Cmd}
+use Rattle.rules.specs.declared.Op.{Op}
+use Rattle.rules.specs.declared.Op.the-variants.{Stitch, Jump, Trim, ColorChange, End}
+use Rattle.rules.specs.declared.Record.{Record}
+use Rattle.rules.specs.declared.Record.the-variants.{StitchBy, JumpBy, ChangeBy, Finish}
+
+-- ---- reading
+
+unfoldable pub bit : ℕ → ℕ → ℕ
+bit i n = n / 2 ^ i % 2
+
+unfoldable pub weigh : ℕ → ℕ → ℕ → ℕ → ℕ → ℕ
+weigh d81 d27 d9 d3 d1 = 81 * d81 + 27 * d27 + 9 * d9 + 3 * d3 + d1
+
+-- Each axis is a sum of ±81, ±27, ±9, ±3, ±1 by bit pairs; y is negated.
+unfoldable pub dstX : ℕ → ℕ → ℕ → ℤ
+dstX b₀ b₁ b₂ =
+    pos (weigh (bit 2 b₂) (bit 2 b₁) (bit 2 b₀) (bit 0 b₁) (bit 0 b₀))
+    -ℤ pos (weigh (bit 3 b₂) (bit 3 b₁) (bit 3 b₀) (bit 1 b₁) (bit 1 b₀))
+
+unfoldable pub dstY : ℕ → ℕ → ℕ → ℤ
+dstY b₀ b₁ b₂ = negℤ
+    (pos (weigh (bit 5 b₂) (bit 5 b₁) (bit 5 b₀) (bit 7 b₁) (bit 7 b₀))
+    -ℤ pos (weigh (bit 4 b₂) (bit 4 b₁) (bit 4 b₀) (bit 6 b₁) (bit 6 b₀)))
+
+-- a byte under a mask equal to itself
+unfoldable pub under : ℕ → ℕ → Bool
+under mask b = eqb (bitAnd b mask) mask
+
+-- The third byte is tested for 0xF3 (end), then 0xC3 (colour change), then 0x83 (jump); else it is a stitch.
+unfoldable pub dstRecord : ℕ → ℤ → ℤ → Record
+dstRecord b₂ dx dy =
+    pick (under 0xF3 b₂) Finish
+    (pick (under 0xC3 b₂) (ChangeBy dx dy 3)
+    (pick (under 0x83 b₂) (JumpBy dx dy 3) (StitchBy dx dy 3)))
+
+-- One or two bytes left over are ignored.
+unfoldable pub dstFirst : List ℕ → Record
+dstFirst [] = Finish
+dstFirst (b₀ ∷ []) = Finish
+dstFirst (b₀ ∷ b₁ ∷ []) = Finish
+dstFirst (b₀ ∷ b₁ ∷ b₂ ∷ rest) = dstRecord b₂ (dstX b₀ b₁ b₂) (dstY b₀ b₁ b₂)
+
+-- ---- writing: the greedy rule
+
+pub data Digit : Type 0 where
+  minus nought plus : Digit
+
+-- the digit of z whose lower digits reach to h
+unfoldable pub digit : ℕ → ℤ → Digit
+digit h z = pick (ltZ (pos h) z) plus (pick (ltZ z (negℤ (pos h))) minus nought)
+
+-- what z leaves to its lower digits, its digit of weight w being d
+unfoldable pub rest : ℕ → Digit → ℤ → ℤ
+rest w minus z = z +ℤ pos w
+rest w nought z = z
+rest w plus z = z -ℤ pos w
+
+unfoldable pub z27 : ℤ → ℤ
+z27 z = rest 81 (digit 40 z) z
+
+unfoldable pub z9 : ℤ → ℤ
+z9 z = rest 27 (digit 13 (z27 z)) (z27 z)
+
+unfoldable pub z3 : ℤ → ℤ
+z3 z = rest 9 (digit 4 (z9 z)) (z9 z)
+
+unfoldable pub z1 : ℤ → ℤ
+z1 z = rest 3 (digit 1 (z3 z)) (z3 z)
+
+-- the pair of bits of a digit: p for +, m for -
+unfoldable pub pair : ℕ → ℕ → Digit → ℕ
+pair p m minus = m
+pair p m nought = 0
+pair p m plus = p
+
+-- a record that moves by (x, -y), with the bits of its kind in the third byte
+unfoldable pub dstBytes : ℕ → ℤ → ℤ → List ℕ
+dstBytes kind x y =
+    (pair 0x01 0x02 (digit 0 (z1 x)) + pair 0x04 0x08 (digit 4 (z9 x)) + pair 0x20 0x10 (digit 4 (z9 y)) + pair 0x80 0x40 (digit 0 (z1 y)))
+    ∷ (pair 0x01 0x02 (digit 1 (z3 x)) + pair 0x04 0x08 (digit 13 (z27 x)) + pair 0x20 0x10 (digit 13 (z27 y)) + pair 0x80 0x40 (digit 1 (z3 y)))
+    ∷ (kind + pair 0x04 0x08 (digit 40 x) + pair 0x20 0x10 (digit 40 y))
+    ∷ []
+
+-- A trim is jumps (2, 2), (-4, -4), (2, 2).
+unfoldable pub dstCmd : Op → ℤ → ℤ → List ℕ
+dstCmd Stitch dx dy = dstBytes 0x03 dx (negℤ dy)
+dstCmd Jump dx dy = dstBytes 0x83 dx (negℤ dy)
+dstCmd Trim dx dy = dstBytes 0x83 (pos 2) (negℤ (pos 2)) ++ dstBytes 0x83 (negℤ (pos 4)) (pos 4) ++ dstBytes 0x83 (pos 2) (negℤ (pos 2))
+dstCmd ColorChange dx dy = 0x00 ∷ 0x00 ∷ 0xC3 ∷ []
+dstCmd End dx dy = 0x00 ∷ 0x00 ∷ 0xF3 ∷ []
+
+-- a header line: two characters, a colon, a text, a carriage return
+unfoldable pub line : ℕ → ℕ → List ℕ → List ℕ
+line a b text = joined ((a ∷ b ∷ 0x3A ∷ []) ∷ text ∷ (0x0D ∷ []) ∷ [])
+
+-- a sign and a number in five places
+unfoldable pub signedRight : ℤ → List ℕ
+signedRight z = pick (nonNeg z) 0x2B 0x2D ∷ right 5 (natAbs z)
+
+-- records written: a trim is three
+unfoldable pub recordCount : List Cmd → ℕ
+recordCount cs = length cs + 2 * count (λ (c : Cmd). isTrim (opOf (c .kind))) cs
+
+-- the 125 bytes of text: LA, ST, CO, +X, -X, +Y, -Y, AX, AY, MX, MY, PD
+unfoldable pub dstText : List ℕ → List Cmd → List ℕ
+dstText name cs = joined
+    (line 0x4C 0x41 (padded 16 (dstName name))
+    ∷ line 0x53 0x54 (right 7 (recordCount cs))
+    ∷ line 0x43 0x4F (right 3 (count (λ (c : Cmd). isChange (opOf (c .kind))) cs))
+    ∷ line 0x2B 0x58 (right 5 (natAbs (maxX cs)))
+    ∷ line 0x2D 0x58 (right 5 (natAbs (minX cs)))
+    ∷ line 0x2B 0x59 (right 5 (natAbs (maxY cs)))
+    ∷ line 0x2D 0x59 (right 5 (natAbs (minY cs)))
+    ∷ line 0x41 0x58 (signedRight (lastX cs))
+    ∷ line 0x41 0x59 (signedRight (negℤ (lastY cs)))
+    ∷ line 0x4D 0x58 (signedRight (pos 0))
+    ∷ line 0x4D 0x59 (signedRight (pos 0))
+    ∷ line 0x50 0x44 (replicate 6 0x2A)
+    ∷ (0x1A ∷ [])
+    ∷ [])
+
+unfoldable pub dstFile : List ℕ → List Cmd → List ℕ
+dstFile name cs = padded 512 (dstText name cs) ++ written dstCmd (pos 0) (pos 0) cs

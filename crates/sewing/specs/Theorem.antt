@@ -1,0 +1,117 @@
+-- Demand 3 over the definitions: for every list accepted for a format, with any name and threads, the file that is written is not refused, and what is
+-- read of it sews what the list sews. Two lists, in one format or two, read back as equal sewings exactly when they sew the same. Assumes nothing.
+use mathlib.Core.Path.{_≡_, refl, sym, _∙_, ap}
+use mathlib.Core.Logic.{_↔_}
+use mathlib.Core.Bool.{Bool, true, false, _||_}
+use mathlib.Core.List.{List, [], _∷_, _++_}
+use Prim.Native.Nat.{ℕ, zero, suc, _/_, _≤_}
+use native.Mathlib.Omega.{arith}
+use borrow.Author.Tests.{ltb-false, le-ltb}
+use lib.IntN.{ℤ, pos}
+use lib.Dec.{ltb}
+use lib.ListN.{length}
+use Rattle.rules.specs.Vocabulary.{pick, count}
+use Rattle.rules.specs.Lists.{commands, stepIn, threadsOf}
+use Rattle.rules.specs.Refusals.{changes, tooMany, verdict, listVerdict}
+use Rattle.rules.specs.Answers.{places, runs, blocks}
+use Rattle.rules.specs.Files.{fileOf, eventsOf, colourOf, placesOf, runsOf, blocksOf, fileRefusals, noRoom, fileVerdict, readVerdict}
+use Rattle.rules.specs.Sewing.{Entry, listSewing, fileSewing}
+use Rattle.rules.specs.declared.Cmd.{Cmd}
+use Rattle.rules.specs.declared.Extension.the-variants.{Of}
+use Rattle.rules.specs.declared.Format.{Format}
+use Rattle.rules.specs.declared.Format.the-variants.{Pes, Pec, Dst, Exp, Jef}
+use Rattle.rules.specs.declared.Refusal.{Refusal}
+use Rattle.rules.specs.declared.Verdict.the-variants.{Accepted, Refused}
+use Rattle.laws.specs.Tests.{or-no-left, or-no-right}
+use Rattle.laws.specs.Listing.{length-commands}
+use Rattle.sewing.specs.EventSewing.{eventSewing, answer-sewing}
+use Rattle.sewing.specs.Accepting.{Taken, taken, Good, Shape, shape-of, accepted-good, first-false}
+use Rattle.sewing.specs.DstSewing.{dst-sewing, dst-taken}
+use Rattle.sewing.specs.PairSewing.{exp-sewing, exp-taken, jef-sewing, jef-taken}
+use Rattle.sewing.specs.PecFiles.{Few, pec-sewing, pec-taken, pes-sewing, pes-taken}
+
+-- the sewing of what a read of the file answers, under its own format
+abbrev pub readSewing : Format → List ℕ → List Entry
+readSewing f s = fileSewing (placesOf f s) (runsOf f s) (blocksOf f s)
+
+-- ---- what acceptance says of sizes
+
+length-threads : (s : List ℕ) → length (threadsOf s) ≡ length s / 3
+unfolding threadsOf
+length-threads [] = refl
+length-threads (r ∷ []) = refl
+length-threads (r ∷ g ∷ []) = refl
+length-threads (r ∷ g ∷ b ∷ s) = omega (arith, length-threads s)
+
+few : (f : Format) (xs ys : List ℤ) (kinds threads : List ℕ) → Taken f xs ys kinds threads → Few (commands xs ys kinds) threads
+unfolding tooMany
+few f xs ys kinds threads t =
+    let s = shape-of f xs ys kinds (t .shape) in
+    let a = or-no-left (ltb 254 (count changes (commands xs ys kinds))) _ (t .few) in
+    let b = or-no-right (ltb 254 (count changes (commands xs ys kinds))) _ (t .few) in
+    let c = or-no-left (ltb 255 (length threads / 3)) _ b in
+    record {
+      commands-few = omega (arith, ltb-false 65535 (length kinds) (s .short), length-commands xs ys kinds);
+      changes-few = ltb-false 254 (count changes (commands xs ys kinds)) a;
+      threads-few = omega (arith, ltb-false 255 (length threads / 3) c, length-threads threads);
+    }
+
+-- ---- by format
+
+events-sew : (f : Format) (name : List ℕ) (cs : List Cmd) (threads : List ℕ) → Few cs threads → Good (stepIn f) (pos 0) (pos 0) cs
+    → eventSewing 0 (pos 0) (pos 0) (eventsOf f (fileOf f name cs threads)) ≡ listSewing cs
+events-sew Pes name cs threads n g = pes-sewing name cs threads (n .commands-few) (n .threads-few) g
+events-sew Pec name cs threads n g = pec-sewing name cs threads (n .threads-few) g
+events-sew Dst name cs threads n g = dst-sewing name cs threads g
+events-sew Exp name cs threads n g = exp-sewing name cs threads g
+events-sew Jef name cs threads n g = jef-sewing name cs threads (n .threads-few) g
+
+not-refused : (f : Format) (name : List ℕ) (cs : List Cmd) (threads : List ℕ) → Few cs threads → fileVerdict (Of f) (fileOf f name cs threads) ≡ Accepted
+not-refused Pes name cs threads n = pes-taken name cs threads n
+not-refused Pec name cs threads n = pec-taken name cs threads n
+not-refused Dst name cs threads n = dst-taken name cs threads (n .commands-few)
+not-refused Exp name cs threads n = exp-taken name cs threads (n .commands-few)
+not-refused Jef name cs threads n = jef-taken name cs threads (n .commands-few) (n .threads-few)
+
+-- ---- the claim
+
+-- the file is not refused, and what is read of it sews what the list sews
+pub record Kept (f : Format) (name : List ℕ) (xs ys : List ℤ) (kinds threads : List ℕ) : Type 0 where
+  pub taken-back : fileVerdict (Of f) (fileOf f name (commands xs ys kinds) threads) ≡ Accepted
+  pub sews-same : readSewing f (fileOf f name (commands xs ys kinds) threads) ≡ listSewing (commands xs ys kinds)
+
+pub kept : (f : Format) (name : List ℕ) (xs ys : List ℤ) (kinds threads : List ℕ) → listVerdict f xs ys kinds threads ≡ Accepted → Kept f name xs ys kinds threads
+unfolding placesOf runsOf blocksOf
+kept f name xs ys kinds threads e =
+    let t = taken f xs ys kinds threads e in
+    let n = few f xs ys kinds threads t in
+    let cs = commands xs ys kinds in
+    let s = fileOf f name cs threads in
+    record {
+      taken-back = not-refused f name cs threads n;
+      sews-same = answer-sewing (colourOf f s) (eventsOf f s) ∙ events-sew f name cs threads n (accepted-good f xs ys kinds threads t);
+    }
+
+-- two lists, each accepted for its own format, read back as equal sewings exactly when they sew the same
+pub same-sewing : (f g : Format) (name name′ : List ℕ) (xs ys xs′ ys′ : List ℤ) (kinds threads kinds′ threads′ : List ℕ)
+    → listVerdict f xs ys kinds threads ≡ Accepted → listVerdict g xs′ ys′ kinds′ threads′ ≡ Accepted
+    → (readSewing f (fileOf f name (commands xs ys kinds) threads) ≡ readSewing g (fileOf g name′ (commands xs′ ys′ kinds′) threads′))
+    ↔ (listSewing (commands xs ys kinds) ≡ listSewing (commands xs′ ys′ kinds′))
+same-sewing f g name name′ xs ys xs′ ys′ kinds threads kinds′ threads′ e e′ =
+    let p = kept f name xs ys kinds threads e .sews-same in
+    let q = kept g name′ xs′ ys′ kinds′ threads′ e′ .sews-same in
+    (λ r. sym p ∙ r ∙ q, λ r. p ∙ r ∙ sym q)
+
+-- ---- with buffers that hold the answer, the read is not refused either
+
+verdict-both : (rs bs : List (Refusal × Bool)) → verdict rs ≡ Accepted → verdict bs ≡ Accepted → verdict (rs ++ bs) ≡ Accepted
+unfolding verdict
+verdict-both [] bs e h = h
+verdict-both (r ∷ rs) bs e h = let p = first-false (r .1) (r .0) (verdict rs) e in rw (p .0) (verdict-both rs bs (p .1) h)
+
+pub read-accepted : (f : Format) (s : List ℕ) (n m k : ℕ) → fileVerdict (Of f) s ≡ Accepted
+    → length (placesOf f s) ≤ n → length (runsOf f s) ≤ m → length (blocksOf f s) ≤ k → readVerdict (Of f) s n m k ≡ Accepted
+unfolding fileVerdict readVerdict noRoom verdict
+read-accepted f s n m k e a b c =
+    verdict-both (fileRefusals f s) _ e
+    (rw (le-ltb n (length (placesOf f s)) a, le-ltb m (length (runsOf f s)) b, le-ltb k (length (blocksOf f s)) c))
