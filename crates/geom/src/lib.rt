@@ -27,7 +27,7 @@ fn max(a: i32, b: i32) -> i32
     if a <= b { b } else { a }
 }
 
-// How far it is from a to b.
+// The difference b - a.
 pub fn span(a: i32, b: i32) -> i64
     ensures { λ r. ⌜ r ≡ b -ℤ a ⌝ }
 {

@@ -23,7 +23,7 @@ pub replicate-more : {A : Type 0} (k : ℕ) (a : A) → 0 < k → replicate k a 
 replicate-more zero a h = absurd (omega arith)
 replicate-more (suc k) a h = rw (one-less k)
 
--- one more place of a number
+-- a number with one place more
 pub right-more : (k v : ℕ) → 0 < k → right k v ≡ (digitAt (k - 1) v ∷ []) ++ right (k - 1) v
 unfolding right
 right-more zero v h = absurd (omega arith)

@@ -1,27 +1,27 @@
--- Integers for omega. An integer z is `up z - dn z`, two natural numbers of which one is 0. Every law speaks of the difference alone, so it is linear, and needs no bound on z.
---     omega ints      at a need of a signed sum, difference, product by a literal, cast or order, and at an equation `r ≡ a +ℤ b`. It reads `c .fits .x`, tests, `≤ℤ`, `<ℤ` by itself
---     let h = add-y c in omega ints      where y = a + b was computed before: the need of that sum says what y is
---     let h : SFits w32 z = omega ints in omega ints      where z is a call's result, a field or an element of known bounds; `fit w32 z (c .f .ok)` where they are not known
---     omega (ints, seen (c .fits .x))      where the bound is that of the type
---     rw (true-lt a b (omega ints), definition) t      where a definition tests `ltZ a b`
+-- Signed numbers as omega can read them. It knows natural numbers, so a signed number is told as a difference of two: `Is v p q` says that v is p - q,
+-- with one law for each operation, and what is known or wanted of v (equal, fitting, read back) follows from that by one law each, for every operation.
+-- How to use it:
+--     omega ints                                            what an operation or a cast asks, an order, an equation
+--     let h : SFits w32 z = fit w32 z (c .f .ok) in ..      where z is a result, a field or an element, of which only the type is known
+--     omega (ints, seen (c .fits .x))                       where that type's range is needed
 -- Assumes nothing.
-use Prim.Native.Nat.{ℕ, zero, suc, _+_, _-_, _*_, _/_, _%_, _^_, _≤_, _<_, max, min}
+use Prim.Native.Nat.{ℕ, zero, suc, _+_, _-_, _*_, _^_, _≤_, _<_, max, min}
 use mathlib.Core.Path.{_≡_, refl, sym, ap, _∙_}
 use mathlib.Core.Bool.{Bool, true, false, not, cond}
 use native.Mathlib.Omega.{arith}
-use native.Mathlib.Nat.{div-eq-of-lt, div-le-self, mod-eq-of-lt, mod-le, mul-le-mul}
+use native.Mathlib.Nat.{mul-le-mul}
 use lib.Pow.{pow-mono}
 use lib.Dec.{T, ltb, leb, eqb, ltb→lt, nltb→le}
-use borrow.Author.Tests.{ltb-true, leb-true, leb-false, lt-ltb, le-ltb, eq-eqb, ne-eqb, not-true, not-false}
+use borrow.Author.Tests.{ltb-true, ltb-false, leb-true, leb-false, lt-ltb, le-ltb, eq-eqb, ne-eqb}
 use lib.IntN.{ℤ, pos, negsuc, negℤ, _+ℤ_, _-ℤ_, _*ℤ_, subℕ, natAbs}
-use lib.Signed.{ltZ, leZ, mag, nonNeg, quotZ, remZ, _≤ℤ_, _<ℤ_}
+use lib.Signed.{ltZ, leZ, mag, nonNeg, _≤ℤ_, _<ℤ_}
 use mir.Syntax.{Width}
 use mir.Val.{SFits, Fits, hbits, bits, toZ, ofZ}
-use mir.ValLaws.{pow-bits}
-use mir.Facts.{toZ-ofZ, sfits-lit, sfits-widen, ltb-yes}
+use mir.Facts.{toZ-ofZ, sfits-widen, ltb-yes}
 use Rattle.rules.specs.Vocabulary.{eqZ, between}
-use Rattle.laws.specs.Tests.{is-true, true-is, false-true, clash, by-test, and-left, and-right, and-true}
+use Rattle.laws.specs.Tests.{is-true, true-is, clash, by-test, and-left, and-right, and-true}
 
+-- the part above zero and the part below it: one of them is 0
 abbrev pub up : ℤ → ℕ
 up (pos n) = n
 up (negsuc n) = 0
@@ -30,103 +30,39 @@ abbrev pub dn : ℤ → ℕ
 dn (pos n) = 0
 dn (negsuc n) = suc n
 
--- the ranges that contracts name: at most n on either side of 0; k + 1 bits
-abbrev pub Within : ℕ → ℤ → Type 0
-Within n z = (negℤ (pos n) ≤ℤ z) × (z ≤ℤ pos n)
+abbrev pub Is : ℤ → ℕ → ℕ → Type 0
+Is v p q = up v + q ≡ p + dn v
 
+-- k + 1 bits, as contracts name it
 abbrev pub InBits : ℕ → ℤ → Type 0
 InBits k z = (negℤ (pos (2 ^ k)) ≤ℤ z) × (z <ℤ pos (2 ^ k))
 
--- one of the two is 0
 pub one0 : (z : ℤ) → min (up z) (dn z) ≡ 0
 one0 (pos n) = omega arith
 one0 (negsuc n) = omega arith
 
--- an integer is told by its parts
-pub parts : (a b : ℤ) → up a + dn b ≡ up b + dn a → a ≡ b
-parts (pos a) (pos b) e = let h : a ≡ b = omega arith in ap pos h
+-- two differences that agree are one number
+pub parts : (a b : ℤ) → Is a (up b) (dn b) → a ≡ b
+parts (pos a) (pos b) e = ap pos (omega arith)
 parts (pos a) (negsuc b) e = absurd (omega arith)
 parts (negsuc a) (pos b) e = absurd (omega arith)
-parts (negsuc a) (negsuc b) e = let h : a ≡ b = omega arith in ap negsuc h
+parts (negsuc a) (negsuc b) e = ap negsuc (omega arith)
 
--- ---- orders: the parts from the test, and the test from the parts
+-- ---- operations
 
-pub le-true : (a b : ℤ) → leZ a b ≡ true → up a + dn b ≤ up b + dn a
-le-true (pos a) (pos b) e = omega (arith, leb-true)
-le-true (pos a) (negsuc b) e = false-true e
-le-true (negsuc a) (pos b) e = omega arith
-le-true (negsuc a) (negsuc b) e = omega (arith, leb-true)
+-- one law for `subℕ`, at both of its outcomes
+sub-is : (a b : ℕ) → Is (subℕ a b) a b
+sub-is a b = go (ltb a b) (λ t. ltb→lt a b t) (λ t. nltb→le a b t)
+  where
+    go : (t : Bool) → (T t → a < b) → (T (not t) → b ≤ a) → Is (cond t (negsuc (b - suc a)) (pos (a - b))) a b
+    go true p q = let h : a < b = p tt in omega arith
+    go false p q = let h : b ≤ a = q tt in omega arith
 
-pub le-false : (a b : ℤ) → leZ a b ≡ false → up b + dn a < up a + dn b
-le-false (pos a) (pos b) e = omega (arith, leb-false)
-le-false (pos a) (negsuc b) e = omega arith
-le-false (negsuc a) (pos b) e = false-true (sym e)
-le-false (negsuc a) (negsuc b) e = omega (arith, leb-false)
-
-pub true-le : (a b : ℤ) → up a + dn b ≤ up b + dn a → leZ a b ≡ true
-true-le a b h = by-test (leZ a b) (λ e. e) (λ e. absurd (omega (arith, le-false a b e)))
-
-pub false-le : (a b : ℤ) → up b + dn a < up a + dn b → leZ a b ≡ false
-false-le a b h = by-test (leZ a b) (λ e. absurd (omega (arith, le-true a b e))) (λ e. e)
-
-ltb-not : (a b : ℕ) → ltb a b ≡ not (leb b a)
-ltb-not a b = by-test (leb b a) (λ e. le-ltb a b (leb-true b a e) ∙ sym (ap not e)) (λ e. lt-ltb a b (leb-false b a e) ∙ sym (ap not e))
-
--- below is not at least
-pub lt-not : (a b : ℤ) → ltZ a b ≡ not (leZ b a)
-lt-not (pos a) (pos b) = ltb-not a b
-lt-not (pos a) (negsuc b) = refl
-lt-not (negsuc a) (pos b) = refl
-lt-not (negsuc a) (negsuc b) = ltb-not b a
-
-pub lt-true : (a b : ℤ) → ltZ a b ≡ true → up a + dn b < up b + dn a
-lt-true a b e = le-false b a (not-true (leZ b a) (sym (lt-not a b) ∙ e))
-
-pub lt-false : (a b : ℤ) → ltZ a b ≡ false → up b + dn a ≤ up a + dn b
-lt-false a b e = le-true b a (not-false (leZ b a) (sym (lt-not a b) ∙ e))
-
-pub true-lt : (a b : ℤ) → up a + dn b < up b + dn a → ltZ a b ≡ true
-true-lt a b h = lt-not a b ∙ ap not (false-le b a h)
-
-pub false-lt : (a b : ℤ) → up b + dn a ≤ up a + dn b → ltZ a b ≡ false
-false-lt a b h = lt-not a b ∙ ap not (true-le b a h)
-
--- the same of the tests as types
-pub le-T : (a b : ℤ) → T (leZ a b) → up a + dn b ≤ up b + dn a
-le-T a b t = le-true a b (is-true (leZ a b) t)
-
-pub lt-T : (a b : ℤ) → T (ltZ a b) → up a + dn b < up b + dn a
-lt-T a b t = lt-true a b (is-true (ltZ a b) t)
-
-pub T-le : (a b : ℤ) → up a + dn b ≤ up b + dn a → T (leZ a b)
-T-le a b h = true-is (leZ a b) (true-le a b h)
-
-pub T-lt : (a b : ℤ) → up a + dn b < up b + dn a → T (ltZ a b)
-T-lt a b h = true-is (ltZ a b) (true-lt a b h)
-
--- ---- the parts of a sum, a difference, a negation
-
-cond-by : (f : ℤ → ℕ) (t : Bool) (x y : ℤ) (n : ℕ) → (T t → f x ≡ n) → (T (not t) → f y ≡ n) → f (cond t x y) ≡ n
-cond-by f true x y n p q = p tt
-cond-by f false x y n p q = q tt
-
-up-subℕ : (a b : ℕ) → up (subℕ a b) ≡ a - b
-up-subℕ a b = cond-by up (ltb a b) (negsuc (b - suc a)) (pos (a - b)) (a - b) (λ t. omega (arith, ltb→lt a b t)) (λ t. refl)
-
-dn-subℕ : (a b : ℕ) → dn (subℕ a b) ≡ b - a
-dn-subℕ a b = cond-by dn (ltb a b) (negsuc (b - suc a)) (pos (a - b)) (b - a) (λ t. omega (arith, ltb→lt a b t)) (λ t. omega (arith, nltb→le a b t))
-
-pub up-add : (a b : ℤ) → up (a +ℤ b) ≡ (up a + up b) - (dn a + dn b)
-up-add (pos a) (pos b) = omega arith
-up-add (pos a) (negsuc b) = omega (arith, up-subℕ a (suc b))
-up-add (negsuc a) (pos b) = omega (arith, up-subℕ b (suc a))
-up-add (negsuc a) (negsuc b) = omega arith
-
-pub dn-add : (a b : ℤ) → dn (a +ℤ b) ≡ (dn a + dn b) - (up a + up b)
-dn-add (pos a) (pos b) = omega arith
-dn-add (pos a) (negsuc b) = omega (arith, dn-subℕ a (suc b))
-dn-add (negsuc a) (pos b) = omega (arith, dn-subℕ b (suc a))
-dn-add (negsuc a) (negsuc b) = omega arith
+pub add-law : (a b : ℤ) → Is (a +ℤ b) (up a + up b) (dn a + dn b)
+add-law (pos a) (pos b) = omega arith
+add-law (pos a) (negsuc b) = omega (arith, sub-is a (suc b))
+add-law (negsuc a) (pos b) = omega (arith, sub-is b (suc a))
+add-law (negsuc a) (negsuc b) = omega arith
 
 pub up-neg : (a : ℤ) → up (negℤ a) ≡ dn a
 up-neg (pos zero) = refl
@@ -138,38 +74,73 @@ dn-neg (pos zero) = refl
 dn-neg (pos (suc n)) = refl
 dn-neg (negsuc n) = refl
 
--- linear laws: what omega reads of a sum without a split
-pub add-law : (a b : ℤ) → up (a +ℤ b) + dn a + dn b ≡ dn (a +ℤ b) + up a + up b
-add-law a b = omega (arith, up-add a b, dn-add a b)
+pub neg-law : (a : ℤ) → Is (negℤ a) (dn a) (up a)
+neg-law a = omega (arith, up-neg a, dn-neg a)
 
-pub sub-law : (a b : ℤ) → up (a -ℤ b) + dn a + up b ≡ dn (a -ℤ b) + up a + dn b
+pub sub-law : (a b : ℤ) → Is (a -ℤ b) (up a + dn b) (dn a + up b)
 sub-law a b = omega (arith, add-law a (negℤ b), up-neg b, dn-neg b)
 
--- ---- a product by a literal, a quotient and a remainder by a literal that is not 0
+-- by a literal
+pub mul-law : (a : ℤ) (k : ℕ) → Is (a *ℤ pos k) (up a * k) (dn a * k)
+mul-law (pos n) k = omega arith
+mul-law (negsuc n) k = omega (arith, neg-law (pos (suc n * k)))
 
-pub up-mul : (a : ℤ) (k : ℕ) → up (a *ℤ pos k) ≡ up a * k
-up-mul (pos n) k = refl
-up-mul (negsuc n) k = up-neg (pos (suc n * k)) ∙ omega arith
+-- ---- orders: both tests, of the parts
 
-pub dn-mul : (a : ℤ) (k : ℕ) → dn (a *ℤ pos k) ≡ dn a * k
-dn-mul (pos n) k = omega arith
-dn-mul (negsuc n) k = dn-neg (pos (suc n * k))
+leb-same : (a b c d : ℕ) → (a ≤ b → c ≤ d) → (c ≤ d → a ≤ b) → leb a b ≡ leb c d
+leb-same a b c d f g = by-test (leb c d)
+    (λ e. by-test (leb a b) (λ h. h ∙ sym e) (λ h. let l : a ≤ b = g (leb-true c d e) in absurd (omega (arith, leb-false a b h))))
+    (λ e. by-test (leb a b) (λ h. let l : c ≤ d = f (leb-true a b h) in absurd (omega (arith, leb-false c d e))) (λ h. h ∙ sym e))
 
-pub up-quot : (z : ℤ) (d : ℕ) → 0 < d → up (quotZ z (pos d)) ≡ up z / d
-up-quot (pos n) d h = refl
-up-quot (negsuc n) d h = up-neg (pos (suc n / d)) ∙ sym (div-eq-of-lt h)
+pub le-parts : (a b : ℤ) → leZ a b ≡ leb (up a + dn b) (up b + dn a)
+le-parts (pos a) (pos b) = leb-same a b (a + 0) (b + 0) (λ h. omega arith) (λ h. omega arith)
+le-parts (pos a) (negsuc b) = leb-same 1 0 (a + suc b) 0 (λ h. omega arith) (λ h. omega arith)
+le-parts (negsuc a) (pos b) = leb-same 0 0 0 (b + suc a) (λ h. omega arith) (λ h. omega arith)
+le-parts (negsuc a) (negsuc b) = leb-same b a (0 + suc b) (0 + suc a) (λ h. omega arith) (λ h. omega arith)
 
-pub dn-quot : (z : ℤ) (d : ℕ) → 0 < d → dn (quotZ z (pos d)) ≡ dn z / d
-dn-quot (pos n) d h = sym (div-eq-of-lt h)
-dn-quot (negsuc n) d h = dn-neg (pos (suc n / d))
+pub lt-parts : (a b : ℤ) → ltZ a b ≡ ltb (up a + dn b) (up b + dn a)
+lt-parts (pos a) (pos b) = leb-same (suc a) b (suc (a + 0)) (b + 0) (λ h. omega arith) (λ h. omega arith)
+lt-parts (pos a) (negsuc b) = leb-same 1 0 (suc (a + suc b)) 0 (λ h. omega arith) (λ h. omega arith)
+lt-parts (negsuc a) (pos b) = leb-same 0 0 1 (b + suc a) (λ h. omega arith) (λ h. omega arith)
+lt-parts (negsuc a) (negsuc b) = leb-same (suc b) a (suc (0 + suc b)) (0 + suc a) (λ h. omega arith) (λ h. omega arith)
 
-pub up-rem : (z : ℤ) (d : ℕ) → 0 < d → up (remZ z (pos d)) ≡ up z % d
-up-rem (pos n) d h = refl
-up-rem (negsuc n) d h = up-neg (pos (suc n % d)) ∙ sym (mod-eq-of-lt h)
+-- what each outcome says, and what gives it
+module _ (a b : ℤ) where
+  pub le-true : leZ a b ≡ true → up a + dn b ≤ up b + dn a
+  le-true e = leb-true _ _ (sym (le-parts a b) ∙ e)
 
-pub dn-rem : (z : ℤ) (d : ℕ) → 0 < d → dn (remZ z (pos d)) ≡ dn z % d
-dn-rem (pos n) d h = sym (mod-eq-of-lt h)
-dn-rem (negsuc n) d h = dn-neg (pos (suc n % d))
+  pub le-false : leZ a b ≡ false → up b + dn a < up a + dn b
+  le-false e = leb-false _ _ (sym (le-parts a b) ∙ e)
+
+  pub lt-true : ltZ a b ≡ true → up a + dn b < up b + dn a
+  lt-true e = ltb-true _ _ (sym (lt-parts a b) ∙ e)
+
+  pub lt-false : ltZ a b ≡ false → up b + dn a ≤ up a + dn b
+  lt-false e = ltb-false _ _ (sym (lt-parts a b) ∙ e)
+
+  pub true-le : up a + dn b ≤ up b + dn a → leZ a b ≡ true
+  true-le h = by-test (leZ a b) (λ e. e) (λ e. absurd (omega (arith, le-false e)))
+
+  pub false-le : up b + dn a < up a + dn b → leZ a b ≡ false
+  false-le h = by-test (leZ a b) (λ e. absurd (omega (arith, le-true e))) (λ e. e)
+
+  pub true-lt : up a + dn b < up b + dn a → ltZ a b ≡ true
+  true-lt h = lt-parts a b ∙ lt-ltb _ _ h
+
+  pub false-lt : up b + dn a ≤ up a + dn b → ltZ a b ≡ false
+  false-lt h = lt-parts a b ∙ le-ltb _ _ h
+
+  pub le-T : T (leZ a b) → up a + dn b ≤ up b + dn a
+  le-T t = le-true (is-true _ t)
+
+  pub lt-T : T (ltZ a b) → up a + dn b < up b + dn a
+  lt-T t = lt-true (is-true _ t)
+
+  pub T-le : up a + dn b ≤ up b + dn a → T (leZ a b)
+  T-le h = true-is _ (true-le h)
+
+  pub T-lt : up a + dn b < up b + dn a → T (ltZ a b)
+  T-lt h = true-is _ (true-lt h)
 
 -- ---- sizes
 
@@ -188,54 +159,84 @@ pub abs-neg : (z : ℤ) → natAbs (negℤ z) ≡ natAbs z
 abs-neg z = omega (arith, abs-is z, abs-is (negℤ z), up-neg z, dn-neg z)
 
 pub abs-add : (a b : ℤ) → natAbs (a +ℤ b) ≤ natAbs a + natAbs b
-abs-add a b = omega (arith, abs-is a, abs-is b, abs-is (a +ℤ b), up-add a b, dn-add a b)
+abs-add a b = abs-le (a +ℤ b) (natAbs a + natAbs b) (omega (arith, add-law a b, abs-is a, abs-is b)) (omega (arith, add-law a b, abs-is a, abs-is b))
 
--- by the sign: z below 0 is -(mag z + 1), and another is mag z
-pub below-zero : (z : ℤ) → ltZ z (pos 0) ≡ true → z ≡ negsuc (mag z)
-below-zero (pos n) e = absurd (omega (arith, ltb-true n 0 e))
-below-zero (negsuc n) e = refl
+-- ---- what follows for v, if it is p - q: when it fits, what it reads as, when another number is the same
 
-pub not-below-zero : (z : ℤ) → ltZ z (pos 0) ≡ false → z ≡ pos (mag z)
-not-below-zero (pos n) e = refl
-not-below-zero (negsuc n) e = false-true (sym e)
+-- p - q is in the range of width w: both ends in one statement, since a rule of omega's concludes from one
+abbrev pub Room : Width → ℕ → ℕ → Type 0
+Room w p q = max (suc (2 * p)) (2 * q) ≤ 2 ^ hbits w + p + q
 
--- ---- what fits a width. One statement is for both ends, as a rule of omega's wants it, and of up z - dn z alone, since that is what the other rules tell.
+fits-is : {w : Width} (v : ℤ) (p q : ℕ) → Is v p q → Room w p q → SFits w v
+fits-is v p q e h = record { sfits = omega (arith, mag-is v, one0 v) }
 
-pub fits-parts : {w : Width} (z : ℤ) → max (suc (2 * up z)) (2 * dn z) ≤ 2 ^ hbits w + up z + dn z → SFits w z
-fits-parts z h = record { sfits = omega (arith, mag-is z, one0 z) }
+back-is : (w : Width) (v : ℤ) (p q : ℕ) → Is v p q → SFits w v → Is (toZ w (ofZ w v)) p q
+back-is w v p q e h = rw (toZ-ofZ h) e
 
-pub fits-add : {w : Width} (a b : ℤ) → max (suc (2 * (up a + up b))) (2 * (dn a + dn b)) ≤ 2 ^ hbits w + (up a + up b) + (dn a + dn b) → SFits w (a +ℤ b)
-fits-add a b h = fits-parts (a +ℤ b) (omega (arith, up-add a b, dn-add a b))
+to-is : (z v : ℤ) (p q : ℕ) → Is v p q → Is z p q → z ≡ v
+to-is z v p q e h = parts z v (omega arith)
 
-pub fits-sub : {w : Width} (a b : ℤ) → max (suc (2 * (up a + dn b))) (2 * (dn a + up b)) ≤ 2 ^ hbits w + (up a + dn b) + (dn a + up b) → SFits w (a -ℤ b)
-fits-sub a b h = fits-add a (negℤ b) (omega (arith, up-neg b, dn-neg b))
+from-is : (z v : ℤ) (p q : ℕ) → Is v p q → z ≡ v → Is z p q
+from-is z v p q e h = rw h e
 
-pub fits-mul : {w : Width} (a : ℤ) (k : ℕ) → max (suc (2 * (up a * k))) (2 * (dn a * k)) ≤ 2 ^ hbits w + up a * k + dn a * k → SFits w (a *ℤ pos k)
-fits-mul a k h = fits-parts (a *ℤ pos k) (omega (arith, up-mul a k, dn-mul a k))
+-- the rules of each operation
+module _ (a b : ℤ) where
+  pub fits-add : {w : Width} → Room w (up a + up b) (dn a + dn b) → SFits w (a +ℤ b)
+  fits-add = fits-is (a +ℤ b) _ _ (add-law a b)
 
--- a quotient and a remainder fit where the dividend does
-pub fits-quot : {w : Width} {z : ℤ} (d : ℕ) → 0 < d → SFits w z → SFits w (quotZ z (pos d))
-fits-quot {w} {z} d h f =
-    fits-parts (quotZ z (pos d)) (omega (arith, up-quot z d h, dn-quot z d h, div-le-self (up z) d, div-le-self (dn z) d, mag-is z, one0 (quotZ z (pos d))))
+  pub fits-sub : {w : Width} → Room w (up a + dn b) (dn a + up b) → SFits w (a -ℤ b)
+  fits-sub = fits-is (a -ℤ b) _ _ (sub-law a b)
 
-pub fits-rem : {w : Width} {z : ℤ} (d : ℕ) → 0 < d → SFits w z → SFits w (remZ z (pos d))
-fits-rem {w} {z} d h f =
-    fits-parts (remZ z (pos d)) (omega (arith, up-rem z d h, dn-rem z d h, mod-le (up z) d, mod-le (dn z) d, mag-is z, one0 (remZ z (pos d))))
+module _ (w : Width) (a b : ℤ) where
+  pub read-add : SFits w (a +ℤ b) → Is (toZ w (ofZ w (a +ℤ b))) (up a + up b) (dn a + dn b)
+  read-add = back-is w (a +ℤ b) _ _ (add-law a b)
 
--- a product of two variables: bounds m and n on their sizes, as numerals
-mag-neg : (k : ℕ) → mag (negℤ (pos k)) ≤ k
-mag-neg k = omega (arith, mag-is (negℤ (pos k)), up-neg (pos k), dn-neg (pos k))
+  pub read-sub : SFits w (a -ℤ b) → Is (toZ w (ofZ w (a -ℤ b))) (up a + dn b) (dn a + up b)
+  read-sub = back-is w (a -ℤ b) _ _ (sub-law a b)
 
-mag-times : (a b : ℤ) → mag (a *ℤ b) ≤ natAbs a * natAbs b
-mag-times (pos a) (pos b) = omega arith
-mag-times (pos a) (negsuc b) = mag-neg (a * suc b)
-mag-times (negsuc a) (pos b) = mag-neg (suc a * b)
-mag-times (negsuc a) (negsuc b) = omega arith
+module _ (z a b : ℤ) where
+  pub eq-add : Is z (up a + up b) (dn a + dn b) → z ≡ a +ℤ b
+  eq-add = to-is z (a +ℤ b) _ _ (add-law a b)
 
-pub fits-times : {w : Width} (a b : ℤ) (m n : ℕ) → natAbs a ≤ m → natAbs b ≤ n → m * n < 2 ^ hbits w → SFits w (a *ℤ b)
-fits-times a b m n p q h = record { sfits = omega (arith, mag-times a b, mul-le-mul p q, h) }
+  pub eq-sub : Is z (up a + dn b) (dn a + up b) → z ≡ a -ℤ b
+  eq-sub = to-is z (a -ℤ b) _ _ (sub-law a b)
 
--- casts: from an unsigned type, and to one, which asks that the number is not negative and that its size fits
+  pub is-add : z ≡ a +ℤ b → Is z (up a + up b) (dn a + dn b)
+  is-add = from-is z (a +ℤ b) _ _ (add-law a b)
+
+  pub is-sub : z ≡ a -ℤ b → Is z (up a + dn b) (dn a + up b)
+  is-sub = from-is z (a -ℤ b) _ _ (sub-law a b)
+
+pub fits-mul : {w : Width} (a : ℤ) (k : ℕ) → Room w (up a * k) (dn a * k) → SFits w (a *ℤ pos k)
+fits-mul a k = fits-is (a *ℤ pos k) _ _ (mul-law a k)
+
+pub read-mul : (w : Width) (a : ℤ) (k : ℕ) → SFits w (a *ℤ pos k) → Is (toZ w (ofZ w (a *ℤ pos k))) (up a * k) (dn a * k)
+read-mul w a k = back-is w (a *ℤ pos k) _ _ (mul-law a k)
+
+module _ (z a : ℤ) where
+  pub eq-neg : Is z (dn a) (up a) → z ≡ negℤ a
+  eq-neg = to-is z (negℤ a) _ _ (neg-law a)
+
+  pub is-neg : z ≡ negℤ a → Is z (dn a) (up a)
+  is-neg = from-is z (negℤ a) _ _ (neg-law a)
+
+  pub eq-mul : (k : ℕ) → Is z (up a * k) (dn a * k) → z ≡ a *ℤ pos k
+  eq-mul k = to-is z (a *ℤ pos k) _ _ (mul-law a k)
+
+  pub is-mul : (k : ℕ) → z ≡ a *ℤ pos k → Is z (up a * k) (dn a * k)
+  is-mul k = from-is z (a *ℤ pos k) _ _ (mul-law a k)
+
+-- the rules of a number alone
+pub fits-parts : {w : Width} (z : ℤ) → Room w (up z) (dn z) → SFits w z
+fits-parts z = fits-is z (up z) (dn z) refl
+
+pub read : (w : Width) (z : ℤ) → SFits w z → Is (toZ w (ofZ w z)) (up z) (dn z)
+read w z = back-is w z (up z) (dn z) refl
+
+pub is-eq : (a b : ℤ) → a ≡ b → Is a (up b) (dn b)
+is-eq a b = from-is a b (up b) (dn b) refl
+
+-- casts: from an unsigned number; to one, which asks for no sign and for room
 pub fits-pos : {w : Width} (n : ℕ) → n < 2 ^ hbits w → SFits w (pos n)
 fits-pos n h = record { sfits = h }
 
@@ -246,155 +247,88 @@ T-nonNeg (negsuc n) h = absurd (omega arith)
 pub fits-abs : {w : Width} (z : ℤ) → max (2 * up z) (2 * dn z) < 2 ^ bits w + up z + dn z → Fits w (natAbs z)
 fits-abs z h = record { fits = omega (arith, abs-is z, one0 z) }
 
--- the bound that a call's `.ok` or a slice's `.given` hands over, as a fit; and a literal: `lit w32 (negsuc 4) tt`
+-- omega takes the first rule that fits: a difference is a sum too, and both are numbers
+pub ruleset ints = (is-sub, is-add, is-neg, is-mul, is-eq, read-sub, read-add, read-mul, read, fits-sub, fits-add, fits-mul, fits-pos, fits-parts, fits-abs, le-true, le-false, lt-true, lt-false, le-T, lt-T, T-le, T-lt, T-nonNeg, eq-sub, eq-add, eq-neg, eq-mul, parts, arith)
+
+-- ---- ranges and what is read back, to be cited by name
+
+-- the range of a type, as a fit
 pub fit : (w : Width) (z : ℤ) → mag z < 2 ^ hbits w → SFits w z
 fit w z h = record { sfits = h }
 
-pub lit : (w : Width) (z : ℤ) → T (ltb (mag z) (2 ^ hbits w)) → SFits w z
-lit w z t = sfits-lit t
-
--- ---- what is read back. A signed local holds bits; `omega` applies one rule to a fact, and a rule gives one statement, so each is one equation.
-
-pub read : (w : Width) (z : ℤ) → SFits w z → up (toZ w (ofZ w z)) + dn z ≡ up z + dn (toZ w (ofZ w z))
-read w z h = omega (arith, ap up (toZ-ofZ h), ap dn (toZ-ofZ h))
-
--- a sum, a difference and a product that fit, told of the operands
-pub read-add : (w : Width) (a b : ℤ) → SFits w (a +ℤ b) → up (toZ w (ofZ w (a +ℤ b))) + (dn a + dn b) ≡ up a + up b + dn (toZ w (ofZ w (a +ℤ b)))
-read-add w a b h = omega (arith, read w (a +ℤ b) h, add-law a b)
-
-pub read-sub : (w : Width) (a b : ℤ) → SFits w (a -ℤ b) → up (toZ w (ofZ w (a -ℤ b))) + (dn a + up b) ≡ up a + dn b + dn (toZ w (ofZ w (a -ℤ b)))
-read-sub w a b h = omega (arith, read w (a -ℤ b) h, sub-law a b)
-
-pub read-mul : (w : Width) (a : ℤ) (k : ℕ) → SFits w (a *ℤ pos k) → up (toZ w (ofZ w (a *ℤ pos k))) + dn a * k ≡ up a * k + dn (toZ w (ofZ w (a *ℤ pos k)))
-read-mul w a k h = omega (arith, read w (a *ℤ pos k) h, up-mul a k, dn-mul a k)
-
--- all that a fit says, to be listed: `seen (c .fits .x)`
-pub record Seen (w : Width) (z : ℤ) : Type 0 where
-  pub upper : up (toZ w (ofZ w z)) ≡ up z
-  pub lower : dn (toZ w (ofZ w z)) ≡ dn z
-  pub top : up z < 2 ^ hbits w
-  pub bottom : dn z ≤ 2 ^ hbits w
-
-pub seen : {w : Width} {z : ℤ} → SFits w z → Seen w z
-seen {w} {z} h = record { upper = ap up (toZ-ofZ h); lower = ap dn (toZ-ofZ h); top = omega (arith, mag-is z); bottom = omega (arith, mag-is z) }
-
--- a call's result or an element of a slice, from its bound: `ret w32 (getD xs i (pos 0)) h`
 pub ret : (w : Width) (z : ℤ) → mag z < 2 ^ hbits w → toZ w (ofZ w z) ≡ z
 ret w z h = toZ-ofZ (fit w z h)
 
--- ---- widening. A number of a width is one of a wider width (`sfits-widen tt` of mir.Facts), as which it is read back; and so is a sum or a difference of two.
+-- a fit, taken apart for omega
+pub record Seen (w : Width) (z : ℤ) : Type 0 where
+  pub above : up (toZ w (ofZ w z)) ≡ up z
+  pub below : dn (toZ w (ofZ w z)) ≡ dn z
+  pub most : up z < 2 ^ hbits w
+  pub least : dn z ≤ 2 ^ hbits w
 
+pub seen : {w : Width} {z : ℤ} → SFits w z → Seen w z
+seen {w} {z} h = record {
+  above = ap up (toZ-ofZ h);
+  below = ap dn (toZ-ofZ h);
+  most = omega (arith, mag-is z);
+  least = omega (arith, mag-is z);
+}
+
+-- a product of two variables, from bounds on both
+mag-mul : (a b : ℤ) → mag (a *ℤ b) ≤ natAbs a * natAbs b
+mag-mul (pos a) (pos b) = omega arith
+mag-mul (pos a) (negsuc b) = let z : ℤ = negℤ (pos (a * suc b)) in omega (arith, mag-is z, up-neg (pos (a * suc b)), dn-neg (pos (a * suc b)))
+mag-mul (negsuc a) (pos b) = let z : ℤ = negℤ (pos (suc a * b)) in omega (arith, mag-is z, up-neg (pos (suc a * b)), dn-neg (pos (suc a * b)))
+mag-mul (negsuc a) (negsuc b) = omega arith
+
+pub fits-times : {w : Width} (a b : ℤ) (m n : ℕ) → natAbs a ≤ m → natAbs b ≤ n → m * n < 2 ^ hbits w → SFits w (a *ℤ b)
+fits-times a b m n p q h = record { sfits = omega (arith, mag-mul a b, mul-le-mul p q) }
+
+-- a wider type holds what a narrower one does, and twice that
 pub read-wider : (w w′ : Width) {z : ℤ} → T (leb (hbits w) (hbits w′)) → SFits w z → toZ w′ (ofZ w′ (toZ w (ofZ w z))) ≡ z
 read-wider w w′ t h = rw (toZ-ofZ h) (toZ-ofZ (sfits-widen t h))
 
-twice : (w w′ : Width) → T (ltb (hbits w) (hbits w′)) → 2 * 2 ^ hbits w ≤ 2 ^ hbits w′
-twice w w′ t = let h : suc (hbits w) ≤ hbits w′ = ltb-yes t in omega (arith, pow-mono h)
+pub twice-room : (w w′ : Width) → T (ltb (hbits w) (hbits w′)) → 2 * 2 ^ hbits w ≤ 2 ^ hbits w′
+twice-room w w′ t = let h : suc (hbits w) ≤ hbits w′ = ltb-yes t in omega (arith, pow-mono h)
 
-pub add-wider : {w w′ : Width} {a b : ℤ} → T (ltb (hbits w) (hbits w′)) → SFits w a → SFits w b → SFits w′ (a +ℤ b)
-add-wider {w} {w′} {a} {b} t h k = fits-add a b (omega (arith, twice w w′ t, seen h, seen k))
+-- a test of two numbers that were read is a test of the numbers
+read-test : (f : ℤ → ℤ → Bool) {w : Width} {a b : ℤ} {t : Bool} → SFits w a → SFits w b → f (toZ w (ofZ w a)) (toZ w (ofZ w b)) ≡ t → f a b ≡ t
+read-test f h k e = rw (toZ-ofZ h, toZ-ofZ k) at e
 
-pub sub-wider : {w w′ : Width} {a b : ℤ} → T (ltb (hbits w) (hbits w′)) → SFits w a → SFits w b → SFits w′ (a -ℤ b)
-sub-wider {w} {w′} {a} {b} t h k = fits-sub a b (omega (arith, twice w w′ t, seen h, seen k))
+pub lt-is : {w : Width} {a b : ℤ} {t : Bool} → SFits w a → SFits w b → ltZ (toZ w (ofZ w a)) (toZ w (ofZ w b)) ≡ t → ltZ a b ≡ t
+lt-is = read-test ltZ
 
--- ---- equations with a sum, a difference, a negation, a product by a literal on the right: to prove, and as an `ensures` gives them
+pub le-is : {w : Width} {a b : ℤ} {t : Bool} → SFits w a → SFits w b → leZ (toZ w (ofZ w a)) (toZ w (ofZ w b)) ≡ t → leZ a b ≡ t
+le-is = read-test leZ
 
-pub eq-add : (z a b : ℤ) → up z + (dn a + dn b) ≡ up a + up b + dn z → z ≡ a +ℤ b
-eq-add z a b e = parts z (a +ℤ b) (omega (arith, add-law a b))
-
-pub eq-sub : (z a b : ℤ) → up z + (dn a + up b) ≡ up a + dn b + dn z → z ≡ a -ℤ b
-eq-sub z a b e = parts z (a -ℤ b) (omega (arith, sub-law a b))
-
-pub eq-neg : (z a : ℤ) → up z + up a ≡ dn a + dn z → z ≡ negℤ a
-eq-neg z a e = parts z (negℤ a) (omega (arith, up-neg a, dn-neg a))
-
-pub eq-mul : (z a : ℤ) (k : ℕ) → up z + dn a * k ≡ up a * k + dn z → z ≡ a *ℤ pos k
-eq-mul z a k e = parts z (a *ℤ pos k) (omega (arith, up-mul a k, dn-mul a k))
-
-pub is-add : (z a b : ℤ) → z ≡ a +ℤ b → up z + (dn a + dn b) ≡ up a + up b + dn z
-is-add z a b e = omega (arith, add-law a b, ap up e, ap dn e)
-
-pub is-sub : (z a b : ℤ) → z ≡ a -ℤ b → up z + (dn a + up b) ≡ up a + dn b + dn z
-is-sub z a b e = omega (arith, sub-law a b, ap up e, ap dn e)
-
-pub is-neg : (z a : ℤ) → z ≡ negℤ a → up z + up a ≡ dn a + dn z
-is-neg z a e = omega (arith, up-neg a, dn-neg a, ap up e, ap dn e)
-
-pub is-mul : (z a : ℤ) (k : ℕ) → z ≡ a *ℤ pos k → up z + dn a * k ≡ up a * k + dn z
-is-mul z a k e = omega (arith, up-mul a k, dn-mul a k, ap up e, ap dn e)
-
-pub is-eq : (a b : ℤ) → a ≡ b → up a + dn b ≡ up b + dn a
-is-eq a b e = omega (arith, ap up e, ap dn e)
+-- ---- differences
 
 pub same-diff : (a b c d : ℕ) → a + d ≡ c + b → pos a -ℤ pos b ≡ pos c -ℤ pos d
-same-diff a b c d e = parts (pos a -ℤ pos b) (pos c -ℤ pos d) (omega (arith, sub-law (pos a) (pos b), sub-law (pos c) (pos d)))
+same-diff a b c d e = eq-sub (pos a -ℤ pos b) (pos c) (pos d) (omega (arith, sub-law (pos a) (pos b)))
 
 pub neg-sub : (a b : ℤ) → negℤ (a -ℤ b) ≡ b -ℤ a
-neg-sub a b = eq-sub (negℤ (a -ℤ b)) b a (omega (arith, sub-law a b, up-neg (a -ℤ b), dn-neg (a -ℤ b)))
+neg-sub a b = eq-sub (negℤ (a -ℤ b)) b a (omega (arith, sub-law a b, neg-law (a -ℤ b)))
 
--- The rules: `omega ints` reads a test, an order and a fit of integers, and proves a fit, an order, an equation, what a cast asks.
-pub ruleset ints = (is-sub, is-add, is-neg, is-mul, is-eq, le-true, le-false, lt-true, lt-false, le-T, lt-T, read-sub, read-add, read-mul, read, fits-sub, fits-add, fits-mul, fits-pos, fits-parts, fits-abs, T-nonNeg, T-le, T-lt, eq-sub, eq-add, eq-neg, eq-mul, parts, arith)
-
--- ---- a test of numbers that were read, told of the numbers: both sides read, the left alone, the right alone (the other is a literal)
-module _ {w : Width} {t : Bool} where
-  pub lt-l : {a : ℤ} (b : ℤ) → SFits w a → ltZ (toZ w (ofZ w a)) b ≡ t → ltZ a b ≡ t
-  lt-l b h e = rw (toZ-ofZ h) at e
-
-  pub lt-r : (a : ℤ) {b : ℤ} → SFits w b → ltZ a (toZ w (ofZ w b)) ≡ t → ltZ a b ≡ t
-  lt-r a h e = rw (toZ-ofZ h) at e
-
-  pub le-l : {a : ℤ} (b : ℤ) → SFits w a → leZ (toZ w (ofZ w a)) b ≡ t → leZ a b ≡ t
-  le-l b h e = rw (toZ-ofZ h) at e
-
-  pub le-r : (a : ℤ) {b : ℤ} → SFits w b → leZ a (toZ w (ofZ w b)) ≡ t → leZ a b ≡ t
-  le-r a h e = rw (toZ-ofZ h) at e
-
-  pub lt-is : {a b : ℤ} → SFits w a → SFits w b → ltZ (toZ w (ofZ w a)) (toZ w (ofZ w b)) ≡ t → ltZ a b ≡ t
-  lt-is h k e = rw (toZ-ofZ h, toZ-ofZ k) at e
-
-  pub le-is : {a b : ℤ} → SFits w a → SFits w b → leZ (toZ w (ofZ w a)) (toZ w (ofZ w b)) ≡ t → leZ a b ≡ t
-  le-is h k e = rw (toZ-ofZ h, toZ-ofZ k) at e
-
--- ---- equality and ranges as tests of the definitions
+-- ---- the tests that definitions use
 
 pub eqz-true : (a b : ℤ) → eqZ a b ≡ true → a ≡ b
-eqz-true a b e = parts a b (omega (arith, le-true a b (and-left (leZ a b) (leZ b a) e), le-true b a (and-right (leZ a b) (leZ b a) e)))
+eqz-true a b e =
+    let h : up a + dn b ≤ up b + dn a = le-true a b (and-left (leZ a b) (leZ b a) e) in
+    let k : up b + dn a ≤ up a + dn b = le-true b a (and-right (leZ a b) (leZ b a) e) in parts a b (omega arith)
 
 pub eq-eqz : (a b : ℤ) → a ≡ b → eqZ a b ≡ true
 eq-eqz a b e = and-true (leZ a b) (leZ b a) (true-le a b (omega (arith, is-eq a b e))) (true-le b a (omega (arith, is-eq a b e)))
 
-pub ne-eqz : (a b : ℤ) → (a ≡ b → ⊥) → eqZ a b ≡ false
-ne-eqz a b f = by-test (eqZ a b) (λ e. absurd (f (eqz-true a b e))) (λ e. e)
-
-pub eqz-false : (a b : ℤ) → eqZ a b ≡ false → a ≡ b → ⊥
-eqz-false a b f e = clash (eqZ a b) (eq-eqz a b e) f
-
 pub between-true : (lo hi z : ℤ) → between lo hi z ≡ true → (lo ≤ℤ z) × (z ≤ℤ hi)
 unfolding between
-between-true lo hi z e = (record { le = true-is (leZ lo z) (and-left (leZ lo z) (leZ z hi) e) }, record { le = true-is (leZ z hi) (and-right (leZ lo z) (leZ z hi) e) })
+between-true lo hi z e = let low : leZ lo z ≡ true = and-left (leZ lo z) (leZ z hi) e in
+    (record { le = true-is _ low }, record { le = true-is _ (and-right (leZ lo z) (leZ z hi) e) })
 
-pub true-between : (lo hi z : ℤ) → lo ≤ℤ z → z ≤ℤ hi → between lo hi z ≡ true
-unfolding between
-true-between lo hi z h l = and-true (leZ lo z) (leZ z hi) (is-true (leZ lo z) (h .le)) (is-true (leZ z hi) (l .le))
-
--- ---- `==` and `!=` of two signed numbers go by their bits
-
+-- `==` compares bits
 pub eq-bits : {w : Width} {a b : ℤ} → SFits w a → SFits w b → ofZ w a ≡ ofZ w b → a ≡ b
 eq-bits {w} h k e = sym (toZ-ofZ h) ∙ ap (toZ w) e ∙ toZ-ofZ k
 
--- the bits, for omega: `omega (ints, bits-are (c .fits .x))` where a test `x == 5` is known
-pub bits-are : {w : Width} {z : ℤ} → SFits w z → ofZ w z + dn z ≡ up z + 2 ^ bits w * min 1 (dn z)
-bits-are {w} {z = pos n} h = omega arith
-bits-are {w} {z = negsuc n} h = let m : min 1 (suc n) ≡ 1 = omega arith in omega (arith, pow-bits w, ap (λ (x : ℕ). 2 ^ bits w * x) m)
-
--- what a branch on `a == b` knows, as the outcome of the test
-pub eq-yes : {w : Width} {a b : ℤ} → SFits w a → SFits w b → ofZ w a ≡ ofZ w b → eqZ a b ≡ true
-eq-yes {w} {a} {b} h k e = eq-eqz a b (eq-bits h k e)
-
-pub eq-no : {w : Width} {a b : ℤ} → SFits w a → SFits w b → (ofZ w a ≡ ofZ w b → ⊥) → eqZ a b ≡ false
-eq-no {w} {a} {b} h k f = ne-eqz a b (λ e. f (ap (ofZ w) e))
-
--- the test itself, where it is returned
 pub eq-test : {w : Width} {a b : ℤ} → SFits w a → SFits w b → eqb (ofZ w a) (ofZ w b) ≡ eqZ a b
 eq-test {w} {a} {b} h k = by-test (eqZ a b)
-    (λ e. eq-eqb (ofZ w a) (ofZ w b) (ap (ofZ w) (eqz-true a b e)) ∙ sym e)
-    (λ e. ne-eqb (ofZ w a) (ofZ w b) (λ p. clash (eqZ a b) (eq-yes h k p) e) ∙ sym e)
+    (λ e. eq-eqb _ _ (ap (ofZ w) (eqz-true a b e)) ∙ sym e)
+    (λ e. ne-eqb _ _ (λ p. clash (eqZ a b) (eq-eqz a b (eq-bits h k p)) e) ∙ sym e)

@@ -12,14 +12,14 @@ use Rattle.rules.specs.declared.Record.{Record}
 use Rattle.rules.specs.declared.Record.the-variants.{StitchBy, JumpBy, ChangeBy, Finish}
 use Rattle.laws.specs.Fuel.{fuelled-step}
 
--- a record of at most `len` bytes takes one byte at least, unless it is the end
+-- every record but the end takes from 1 to `len` bytes
 abbrev pub Within : ℕ → Record → Type 0
 Within len (StitchBy dx dy n) = (0 < n) × (n ≤ len)
 Within len (JumpBy dx dy n) = (0 < n) × (n ≤ len)
 Within len (ChangeBy dx dy n) = (0 < n) × (n ≤ len)
 Within len Finish = Unit {0}
 
--- a reader of records that stays in the bytes it is given
+-- the first record of any bytes lies in them
 abbrev pub Inside : (List ℕ → Record) → Type 0
 Inside first = (s : List ℕ) → Within (length s) (first s)
 
@@ -44,7 +44,7 @@ module _ (first : List ℕ → Record) (inside : Inside first) where
       (λ f g t h. then-same (first t) (length t) _ _ (inside t) (λ n l m. h (drop n t) (simp length-drop (omega arith))))
       (suc (length s)) s (omega arith)
 
-  -- the same, by what the first record is
+  -- one law for each kind of first record
   pub read-stitch : (s : List ℕ) {dx dy : ℤ} {n : ℕ} → first s ≡ StitchBy dx dy n → events first s ≡ stitch dx dy ∷ events first (drop n s)
   unfolding recordThen
   read-stitch s e = events-step s ∙ ap (λ (r : Record). recordThen r (λ n. events first (drop n s))) e

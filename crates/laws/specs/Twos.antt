@@ -2,25 +2,23 @@
 -- Assumes nothing.
 use Prim.Native.Nat.{ℕ, zero, suc, _+_, _-_, _*_, _^_, _/_, _%_, _≤_, _<_}
 use mathlib.Core.Path.{_≡_, sym, ap, _∙_}
-use mathlib.Core.Bool.{not}
 use native.Mathlib.Omega.{arith}
-use native.Mathlib.Nat.{mod-eq-of-lt, mod-eq-sub-mod, mod-lt, add-comm, zero-mul, one-mul, suc-mul, add-mul, div-add-mod', div-lt-iff-lt-mul, lt-of-lt-of-le}
+use native.Mathlib.Nat.{mod-eq-of-lt, mod-eq-sub-mod, mod-lt, suc-mul, add-mul, div-add-mod', div-lt-iff-lt-mul, lt-of-lt-of-le}
 use native.Mathlib.Numerals.{add-one}
 use native.Mathlib.Decide.{decLt}
-use borrow.Author.Tests.{ne-eqb}
 use lib.Arith.{digits-mod}
 use lib.Pow.{pow-pos, pow-mono, pow-add}
-use lib.Bits.{bitAnd, and-high, and-mask, mask-lt}
-use lib.Dec.{T, ltb, eqb, lit<}
+use lib.Bits.{bitAnd, and-mask, mask-lt}
+use lib.Dec.{T, ltb}
 use lib.Signed.{nonNeg}
-use lib.IntN.{ℤ, pos, negsuc, _+ℤ_, _-ℤ_, natAbs}
+use lib.IntN.{ℤ, pos, negsuc, _-ℤ_, natAbs}
 use mir.Syntax.{Width}
 use mir.Val.{SFits, Fits, bits, hbits, toZ, ofZ}
 use mir.ValLaws.{bits-suc, pow-bits}
-use mir.Facts.{toZ-ofZ, toZ-pos}
+use mir.Facts.{toZ-pos}
 use Rattle.rules.specs.Vocabulary.{signed, bitsOf}
 use Rattle.laws.specs.Tests.{by-test, pick-lt, pick-ge}
-use Rattle.laws.specs.Ints.{up, dn, ints, InBits, one0, up-neg, dn-neg, add-law, sub-law, abs-is, eq-sub, same-diff}
+use Rattle.laws.specs.Ints.{up, dn, ints, InBits, up-neg, dn-neg, sub-law, eq-sub, same-diff}
 
 pub twice-pow : (k : ℕ) → 2 ^ (k + 1) ≡ 2 * 2 ^ k
 twice-pow k = rw (add-one k) (omega arith)
@@ -98,20 +96,7 @@ bits-signed k n l =
 
 -- ---- what code computes
 
--- `(z + 2 ^ (k + 1)) as u8` of a negative z, and `z as u8` of another
-pub enc-neg : {w : Width} {z : ℤ} (k : ℕ) → SFits w z → SFits w (toZ w (ofZ w z) +ℤ pos (2 ^ (k + 1))) → up z < dn z → dn z ≤ 2 ^ (k + 1) + up z
-    → natAbs (toZ w (ofZ w (toZ w (ofZ w z) +ℤ pos (2 ^ (k + 1))))) ≡ bitsOf k z
-enc-neg {w} {z} k h s n l = let t : ℤ = z +ℤ pos (2 ^ (k + 1)) in
-    rw (toZ-ofZ s, toZ-ofZ h) (omega (arith, abs-is t, add-law z (pos (2 ^ (k + 1))), one0 t, bits-neg k z n l))
-
-pub enc-pos : {w : Width} {z : ℤ} (k : ℕ) → SFits w z → dn z ≤ up z → up z < 2 ^ (k + 1) + dn z → natAbs (toZ w (ofZ w z)) ≡ bitsOf k z
-enc-pos {w} {z} k h n l = rw (toZ-ofZ h) (omega (arith, abs-is z, one0 z, bits-pos k z n l))
-
--- `n as i32 - 2 ^ (k + 1)` of an n from half on, and `n as i32` of one below
-pub dec-high : {w : Width} (k n : ℕ) → SFits w (toZ w n -ℤ pos (2 ^ (k + 1))) → 2 ^ k ≤ n → n < 2 ^ (k + 1) → n < 2 ^ hbits w
-    → toZ w (ofZ w (toZ w n -ℤ pos (2 ^ (k + 1)))) ≡ signed k n
-dec-high {w} k n s h l f = rw (toZ-ofZ s, toZ-pos w f) (sym (signed-high k n h l))
-
+-- `n as i32` of an n below half
 pub dec-low : (w : Width) (k n : ℕ) → n < 2 ^ k → n < 2 ^ hbits w → toZ w n ≡ signed k n
 dec-low w k n h f = toZ-pos w f ∙ sym (signed-low k n h)
 
@@ -167,18 +152,3 @@ mask-cast w {w′} n k h l =
 
 pub mask-ret : {w : Width} {z : ℤ} (k : ℕ) → k < hbits w → SFits w z → natAbs (toZ w (bitAnd (ofZ w z) (2 ^ (k + 1) - 1))) ≡ bitsOf k z
 mask-ret {w} {z} k h f = rw (mask-read w (ofZ w z) k h) (mask-bits k (omega (arith, bits-suc w)) f)
-
--- ---- a bit's test by a mask
-
--- `b & 2 ^ k`
-pub mask-is : (b k : ℕ) → bitAnd b (2 ^ k) ≡ b / 2 ^ k % 2 * 2 ^ k
-mask-is b k = ap (bitAnd b) (omega (arith, twice-pow k, ap (λ (j : ℕ). 2 ^ j) (add-comm 1 k))) ∙ and-high b 1 k
-
--- `b & 2 ^ k != 0`
-pub mask-test : (b k : ℕ) → not (eqb (bitAnd b (2 ^ k)) 0) ≡ eqb (b / 2 ^ k % 2) 1
-mask-test b k = rw (mask-is b k) (bit (b / 2 ^ k % 2) (mod-lt (b / 2 ^ k) (lit< tt)))
-  where
-    bit : (n : ℕ) → n < 2 → not (eqb (n * 2 ^ k) 0) ≡ eqb n 1
-    bit zero h = rw (zero-mul (2 ^ k))
-    bit (suc zero) h = rw (one-mul (2 ^ k), ne-eqb (2 ^ k) 0 (λ e. omega (arith, pow-pos k)))
-    bit (suc (suc n)) h = absurd (omega arith)

@@ -6,26 +6,26 @@ use lib.IntN.{ℤ, _+ℤ_}
 use lib.ListN.{length}
 use Rattle.rules.specs.Records.{Event, stitch, jump, change}
 
--- In each definition n is the points in the run that is open, 0 if none is.
+-- Throughout, n counts the points of the open run; 0 means that no run is open.
 
--- the points after one more stitch
+-- a stitch adds a point, and a run opens with two
 unfoldable pub pointsAfter : ℕ → ℕ
 pointsAfter zero = 2
 pointsAfter (suc n) = suc (suc n)
 
--- the place that a stitch leaves, where it opens a run
+-- the first point of a run, where a stitch opens one
 unfoldable pub startOf : ℕ → ℤ → ℤ → List ℤ
 startOf zero x y = x ∷ y ∷ []
 startOf (suc n) x y = []
 
--- the places, x then y, from (x, y)
+-- the points of all runs in order, two cells each; the place before is (x, y)
 unfoldable pub places : ℤ → ℤ → ℕ → List Event → List ℤ
 places x y n [] = []
 places x y n (stitch dx dy ∷ es) = startOf n x y ++ (x +ℤ dx) ∷ (y +ℤ dy) ∷ places (x +ℤ dx) (y +ℤ dy) (pointsAfter n) es
 places x y n (jump dx dy ∷ es) = places (x +ℤ dx) (y +ℤ dy) 0 es
 places x y n (change dx dy ∷ es) = places (x +ℤ dx) (y +ℤ dy) 0 es
 
--- a run of n points, if there is one
+-- an ended run; none if no run was open
 unfoldable pub runOf : ℕ → List ℕ
 runOf zero = []
 runOf (suc n) = suc n ∷ []
@@ -42,7 +42,7 @@ unfoldable pub blockOf : (ℕ → ℕ) → ℕ → ℕ → List ℕ
 blockOf colour k zero = []
 blockOf colour k (suc m) = k ∷ colour k ∷ suc m ∷ []
 
--- the runs begun after one more stitch, of m before it
+-- a stitch begins a run where none is open
 unfoldable pub begunAfter : ℕ → ℕ → ℕ
 begunAfter zero m = suc m
 begunAfter (suc n) m = m

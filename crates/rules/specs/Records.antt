@@ -13,7 +13,7 @@ pub data Event : Type 0 where
   jump : ℤ → ℤ → Event
   change : ℤ → ℤ → Event
 
--- what a record does, and then what `go` finds in the bytes after it
+-- the event of a record, followed by those that `go` tells of the bytes behind it
 unfoldable pub recordThen : Record → (ℕ → List Event) → List Event
 recordThen (StitchBy dx dy n) go = stitch dx dy ∷ go n
 recordThen (JumpBy dx dy n) go = jump dx dy ∷ go n

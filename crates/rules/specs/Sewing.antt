@@ -61,7 +61,7 @@ runSewing k (suc n) [] = []
 runSewing k (suc n) (x ∷ []) = []
 runSewing k (suc n) (x ∷ y ∷ ps) = sewsRun k x y n ps
 
--- the first m runs, in block k
+-- m runs of block k, the first of them at the front
 unfoldable pub runsSewing : ℕ → ℕ → List ℤ → List ℕ → List Entry
 runsSewing k zero ps rs = []
 runsSewing k (suc m) ps [] = []

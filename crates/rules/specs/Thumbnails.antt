@@ -15,7 +15,7 @@ use Rattle.rules.specs.declared.Op.{Op}
 use Rattle.rules.specs.declared.Op.the-variants.{Stitch, Jump, Trim, ColorChange, End}
 use Rattle.rules.specs.declared.Scale.{Scale}
 
--- a whole number as an f64
+-- `z as f64`
 abbrev pub real : ℤ → Float
 real z = ofInt binary64 z
 
@@ -44,7 +44,7 @@ f38 = ofBits binary64 0x4043_0000_0000_0000
 abbrev pub f48 : Float
 f48 = ofBits binary64 0x4048_0000_0000_0000
 
--- Rust's x.max(1.0) and x.min(y), for numbers
+-- `f64::max` with 1.0 and `f64::min`, of finite numbers
 unfoldable pub atLeastOne : Float → Float
 atLeastOne x = pick (lt f1 x) x f1
 
@@ -75,14 +75,14 @@ scaleOf x y x′ y′ buffer = record {
   ty = offset (middle y y′) (scaleBy x y x′ y′ buffer) f19;
 }
 
--- the largest whole number that is not above x; -1 where x is no number or infinite
+-- `x.floor()` as a whole number; -1, which is in no picture, for NaN and the infinities
 unfoldable pub floorOf : Float → ℤ
 floorOf nan = negsuc 0
 floorOf (inf s) = negsuc 0
 floorOf (fin false m e) = pos (m * up e / down e)
 floorOf (fin true m e) = negℤ (pos ((m * up e + (down e - 1)) / down e))
 
--- z from 0 to 47, else 48
+-- the pixel number, or 48 outside the picture
 unfoldable pub within : ℤ → ℕ
 within (pos n) = pick (ltb n 48) n 48
 within (negsuc n) = 48
@@ -94,7 +94,7 @@ pixel icon x y =
     (set icon (y * 6 + x / 8) (bitOr (getD icon (y * 6 + x / 8) 0) (2 ^ (x % 8))))
     icon
 
--- a place's column or row
+-- from a place on one axis to its pixel number
 abbrev pub pixelAt : ℤ → Float → Float → ℕ
 pixelAt z scale t = within (floorOf (add binary64 (mul binary64 (real z) scale) t))
 

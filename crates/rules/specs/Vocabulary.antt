@@ -9,7 +9,7 @@ use lib.ListN.{length, replicate}
 use Rattle.rules.specs.declared.Found.{Found}
 use Rattle.rules.specs.declared.Found.the-variants.{At, Missing}
 
--- the first where the test holds, else the second
+-- if-then-else
 abbrev pub pick {ℓ} : {X : Type ℓ} → Bool → X → X → X
 pick true x y = x
 pick false x y = y
@@ -88,21 +88,21 @@ unfoldable pub fromLittle : List ℕ → ℕ
 fromLittle [] = 0
 fromLittle (b ∷ bs) = b + 256 * fromLittle bs
 
--- pieces, one after the other
+-- concatenation
 unfoldable pub joined : List (List ℕ) → List ℕ
 joined [] = []
 joined (p ∷ ps) = p ++ joined ps
 
--- the character of v at the place of 10 ^ k: its digit, or a blank in front of its first digit
+-- digit k of v, counted from the right, as a character; a blank where v has no such digit
 unfoldable pub digitAt : ℕ → ℕ → ℕ
 digitAt k v = pick (ltb 0 k && ltb v (10 ^ k)) 0x20 (0x30 + v / 10 ^ k % 10)
 
--- v in decimal in n places, right-aligned
+-- v in decimal, right-aligned in n columns
 unfoldable pub right : ℕ → ℕ → List ℕ
 right zero v = []
 right (suc k) v = digitAt k v ∷ right k v
 
--- a text and the blanks that fill it up to n places
+-- filled with blanks to n bytes
 unfoldable pub padded : ℕ → List ℕ → List ℕ
 padded n s = s ++ replicate (n - length s) 0x20
 

@@ -79,7 +79,7 @@ pub enum Record {
     StitchBy { dx: i32, dy: i32, len: usize },
     JumpBy { dx: i32, dy: i32, len: usize },
     ChangeBy { dx: i32, dy: i32, len: usize },
-    // The end mark, an unknown control, or too few bytes for a record.
+    // Nothing more is read: an end record, a control that no rule names, or half a record.
     Finish,
 }
 

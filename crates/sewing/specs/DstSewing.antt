@@ -52,7 +52,7 @@ each P t =
 each2 : (P : Digit → Digit → Bool) → T (every (λ a. every (P a))) → (a b : Digit) → T (P a b)
 each2 P t a = each (P a) (each (λ a. every (P a)) t a)
 
--- ---- the bits of a byte
+-- ---- single bits
 
 -- a digit's two bits
 plusBit : Digit → ℕ
@@ -191,7 +191,7 @@ module _ (dx dy : ℤ) (t : List ℕ) (h : stepIn Dst dx dy ≡ true) (k : ℕ) 
       ap (eventSewing k x y) (read-jump dstFirst dst-inside (dstBytes 0x83 dx (negℤ dy) ++ t) (step-back 0x83 jump-bits dx dy t h ∙ jump-record dx dy _ _))
       ∙ sew-jump k x y dx dy _
 
--- the three jumps of a trim lead back
+-- a trim ends where it began
 home : (z : ℤ) → z +ℤ pos 2 +ℤ negsuc 3 +ℤ pos 2 ≡ z
 home z = ap (λ (a : ℤ). a +ℤ pos 2) (+ℤ-assoc z (pos 2) (negsuc 3)) ∙ +ℤ-assoc z (negsuc 1) (pos 2) ∙ +ℤ-idr z
 

@@ -1,4 +1,4 @@
--- The sewing of what a read answers is the sewing of its events. Assumes nothing.
+-- A read's three answers sew what its events sew: no place, run or block is lost on the way. Assumes nothing.
 use mathlib.Core.Path.{_≡_, refl, sym, _∙_, ap, ap₂}
 use mathlib.Core.Bool.{Bool, true, false, _&&_}
 use mathlib.Core.List.{List, [], _∷_, _++_, append-assoc, append-nil}
@@ -17,14 +17,14 @@ use Rattle.rules.specs.Sewing.{Entry, entry, sewsRun, runSewing, runsSewing, ce
 use Rattle.laws.specs.Tests.{and-true, pick-true}
 use Rattle.laws.specs.Ints.{eq-eqz}
 
--- each stitch that moves gives an entry, a change opens the next block
+-- what events sew, from block k and place (x, y)
 unfoldable pub eventSewing : ℕ → ℤ → ℤ → List Event → List Entry
 eventSewing k x y [] = []
 eventSewing k x y (stitch dx dy ∷ es) = entry k x y (x +ℤ dx) (y +ℤ dy) (eventSewing k (x +ℤ dx) (y +ℤ dy) es)
 eventSewing k x y (jump dx dy ∷ es) = eventSewing k (x +ℤ dx) (y +ℤ dy) es
 eventSewing k x y (change dx dy ∷ es) = eventSewing (suc k) (x +ℤ dx) (y +ℤ dy) es
 
--- its equations, so that a proof need not unfold it
+-- its cases, cited where it stays shut
 pub sew-stitch : (k : ℕ) (x y dx dy : ℤ) (es : List Event)
     → eventSewing k x y (stitch dx dy ∷ es) ≡ entry k x y (x +ℤ dx) (y +ℤ dy) (eventSewing k (x +ℤ dx) (y +ℤ dy) es)
 unfolding eventSewing
@@ -38,7 +38,7 @@ pub sew-nil : (k : ℕ) (x y : ℤ) → eventSewing k x y [] ≡ []
 unfolding eventSewing
 sew-nil k x y = refl
 
--- a stitch on the spot sews nothing
+-- events with no step: a stitch leaves no entry, a jump and a change leave the place
 pub entry-spot : (k : ℕ) (x y : ℤ) (t : List Entry) → entry k x y x y t ≡ t
 unfolding entry samePlace
 entry-spot k x y t = pick-true t _ (and-true (eqZ x x) (eqZ y y) (eq-eqz x x refl) (eq-eqz y y refl))
@@ -47,7 +47,6 @@ pub sew-spot : (k : ℕ) (x y : ℤ) (es : List Event) → eventSewing k x y (st
 unfolding eventSewing
 sew-spot k x y es = ap₂ (λ (a b : ℤ). entry k x y a b (eventSewing k a b es)) (+ℤ-idr x) (+ℤ-idr y) ∙ entry-spot k x y _
 
--- nor does a jump or a change on the spot move
 pub sew-jump-spot : (k : ℕ) (x y : ℤ) (es : List Event) → eventSewing k x y (jump (pos 0) (pos 0) ∷ es) ≡ eventSewing k x y es
 unfolding eventSewing
 sew-jump-spot k x y es = ap₂ (λ (a b : ℤ). eventSewing k a b es) (+ℤ-idr x) (+ℤ-idr y)
@@ -56,136 +55,130 @@ pub sew-change-spot : (k : ℕ) (x y : ℤ) (es : List Event) → eventSewing k 
 unfolding eventSewing
 sew-change-spot k x y es = ap₂ (λ (a b : ℤ). eventSewing (suc k) a b es) (+ℤ-idr x) (+ℤ-idr y)
 
--- ---- what the answers come to, told from the events to come
+-- ---- the answers, taken apart
 
--- the points that the open run still gets
-openLen : List Event → ℕ
-openLen [] = zero
-openLen (stitch dx dy ∷ es) = suc (openLen es)
-openLen (jump dx dy ∷ es) = zero
-openLen (change dx dy ∷ es) = zero
+-- What is left to sew from inside block k: m of its runs, then the blocks bs.
+abbrev Left : ℕ → ℕ → List ℤ → List ℕ → List ℕ → List Entry
+Left k m ps rs bs = runsSewing k m ps rs ++ fileSewing (drop (cells m rs) ps) (drop m rs) bs
 
--- the runs after the open one
-afterOpen : List Event → List ℕ
-afterOpen [] = []
-afterOpen (stitch dx dy ∷ es) = afterOpen es
-afterOpen (jump dx dy ∷ es) = runs zero es
-afterOpen (change dx dy ∷ es) = runs zero es
-
--- a run is open
-on : ℕ → Bool
-on zero = false
-on (suc n) = true
-
--- the runs that the block still begins
-more : Bool → List Event → ℕ
-more o [] = zero
-more false (stitch dx dy ∷ es) = suc (more true es)
-more true (stitch dx dy ∷ es) = more true es
-more o (jump dx dy ∷ es) = more false es
-more o (change dx dy ∷ es) = zero
-
--- the blocks after the one that is open
-later : (ℕ → ℕ) → ℕ → List Event → List ℕ
-later colour k [] = []
-later colour k (stitch dx dy ∷ es) = later colour k es
-later colour k (jump dx dy ∷ es) = later colour k es
-later colour k (change dx dy ∷ es) = blocks colour (suc k) 0 0 es
-
-runs-open : (n : ℕ) (es : List Event) → runs (suc n) es ≡ suc (n + openLen es) ∷ afterOpen es
-unfolding runs runOf pointsAfter openLen afterOpen
-runs-open n [] = ap (λ (a : ℕ). suc a ∷ []) (omega arith)
-runs-open n (stitch dx dy ∷ es) = runs-open (suc n) es ∙ ap (λ (a : ℕ). suc a ∷ afterOpen es) (omega arith)
-runs-open n (jump dx dy ∷ es) = ap (λ (a : ℕ). suc a ∷ runs zero es) (omega arith)
-runs-open n (change dx dy ∷ es) = ap (λ (a : ℕ). suc a ∷ runs zero es) (omega arith)
-
-blocks-is : (colour : ℕ → ℕ) (k m n : ℕ) (es : List Event)
-    → blocks colour k m n es ≡ blockOf colour k (m + more (on n) es) ++ later colour k es
-unfolding blocks begunAfter pointsAfter more later on
-blocks-is colour k m n [] = rw (add-zero, append-nil)
-blocks-is colour k m zero (stitch dx dy ∷ es) =
-    blocks-is colour k (suc m) 2 es ∙ ap (λ (a : ℕ). blockOf colour k a ++ later colour k es) (suc-add m (more true es) ∙ sym (add-suc m (more true es)))
-blocks-is colour k m (suc n) (stitch dx dy ∷ es) = blocks-is colour k m (suc (suc n)) es
-blocks-is colour k m n (jump dx dy ∷ es) = blocks-is colour k m 0 es
-blocks-is colour k m n (change dx dy ∷ es) = ap (λ (a : ℕ). blockOf colour k a ++ blocks colour (suc k) 0 0 es) (sym (add-zero m))
-
--- a block of no runs says nothing
-file-block : (colour : ℕ → ℕ) (k m : ℕ) (rest : List ℕ) (ps : List ℤ) (rs : List ℕ)
-    → fileSewing ps rs (blockOf colour k m ++ rest) ≡ runsSewing k m ps rs ++ fileSewing (drop (cells m rs) ps) (drop m rs) rest
+-- a block's three cells, if it was listed, lead to its runs
+from-block : (colour : ℕ → ℕ) (k m : ℕ) (ps : List ℤ) (rs bs : List ℕ) → fileSewing ps rs (blockOf colour k m ++ bs) ≡ Left k m ps rs bs
 unfolding fileSewing blockOf runsSewing cells
-file-block colour k zero rest ps rs = refl
-file-block colour k (suc m) rest ps rs = refl
+from-block colour k zero ps rs bs = refl
+from-block colour k (suc m) ps rs bs = refl
 
--- what follows an entry goes under it
-entry-app : (k : ℕ) (x y x′ y′ : ℤ) (s t : List Entry) → entry k x y x′ y′ s ++ t ≡ entry k x y x′ y′ (s ++ t)
-unfolding entry
-entry-app k x y x′ y′ s t = go (samePlace x y x′ y′) _
-  where
-    go : (b : Bool) (e : Entry) → pick b s (e ∷ s) ++ t ≡ pick b (s ++ t) (e ∷ (s ++ t))
-    go true e = refl
-    go false e = refl
-
--- the rest of block k, m runs of it to come, and the blocks after it
-abbrev Rest : ℕ → ℕ → List ℤ → List ℕ → List ℕ → List Entry
-Rest k m ps rs bs = runsSewing k m ps rs ++ fileSewing (drop (cells m rs) ps) (drop m rs) bs
-
-two-more : (a : ℕ) → 2 * suc a ≡ suc (suc (2 * a))
-two-more a = omega arith
-
--- the next run, and then the rest
-rest-run : (k m n : ℕ) (ps : List ℤ) (rs bs : List ℕ)
-    → Rest k (suc m) ps (n ∷ rs) bs ≡ runSewing k n ps ++ Rest k m (drop (2 * n) ps) rs bs
+-- a run's cell leads to its points
+from-run : (k m n : ℕ) (ps : List ℤ) (rs bs : List ℕ) → Left k (suc m) ps (n ∷ rs) bs ≡ runSewing k n ps ++ Left k m (drop (2 * n) ps) rs bs
 unfolding runsSewing cells
-rest-run k m n ps rs bs =
-    ap (λ (q : List ℤ). (runSewing k n ps ++ runsSewing k m (drop (2 * n) ps) rs) ++ fileSewing q (drop m rs) bs) (sym (drop-drop (cells m rs) (2 * n) ps))
-    ∙ append-assoc (runSewing k n ps) _ _
+from-run k m n ps rs bs =
+    rw (sym (drop-drop (cells m rs) (2 * n) ps)) (append-assoc (runSewing k n ps) (runsSewing k m (drop (2 * n) ps) rs) _)
 
--- a stitch in an open run that goes on as t
-one-stitch : (k : ℕ) (x y x′ y′ : ℤ) (a m : ℕ) (ps : List ℤ) (rs bs : List ℕ) {t : List Entry}
-    → sewsRun k x′ y′ a ps ++ Rest k m (drop (2 * a) ps) rs bs ≡ t
-    → entry k x y x′ y′ (sewsRun k x′ y′ a ps) ++ Rest k m (drop (2 * suc a) (x′ ∷ y′ ∷ ps)) rs bs ≡ entry k x y x′ y′ t
-one-stitch k x y x′ y′ a m ps rs bs h = rw (two-more a) (entry-app k x y x′ y′ _ _ ∙ ap (entry k x y x′ y′) h)
+entry-++ : (k : ℕ) (x y x′ y′ : ℤ) (s t : List Entry) → entry k x y x′ y′ s ++ t ≡ entry k x y x′ y′ (s ++ t)
+unfolding entry
+entry-++ k x y x′ y′ s t = either (samePlace x y x′ y′) _
+  where
+    either : (b : Bool) (e : Entry) → pick b s (e ∷ s) ++ t ≡ pick b (s ++ t) (e ∷ (s ++ t))
+    either true e = refl
+    either false e = refl
 
--- a stitch that opens a run
-first-stitch : (k : ℕ) (x y x′ y′ : ℤ) (a m : ℕ) (ps : List ℤ) (rs bs : List ℕ) {t : List Entry}
-    → sewsRun k x′ y′ a ps ++ Rest k m (drop (2 * a) ps) rs bs ≡ t
-    → Rest k (suc m) (x ∷ y ∷ x′ ∷ y′ ∷ ps) (suc (suc a) ∷ rs) bs ≡ entry k x y x′ y′ t
-unfolding runSewing sewsRun
-first-stitch k x y x′ y′ a m ps rs bs h = rest-run k m (suc (suc a)) _ rs bs ∙ rw (two-more (suc a)) (one-stitch k x y x′ y′ a m ps rs bs h)
+double : (a : ℕ) → 2 * suc a ≡ suc (suc (2 * a))
+double a = omega arith
+
+-- a point's two cells are one entry, before what is sewn after it
+from-point : (k : ℕ) (x y x′ y′ : ℤ) (a : ℕ) (ps : List ℤ) (after : List ℤ → List Entry)
+    → entry k x y x′ y′ (sewsRun k x′ y′ a ps) ++ after (drop (2 * suc a) (x′ ∷ y′ ∷ ps)) ≡ entry k x y x′ y′ (sewsRun k x′ y′ a ps ++ after (drop (2 * a) ps))
+from-point k x y x′ y′ a ps after = rw (double a) (entry-++ k x y x′ y′ (sewsRun k x′ y′ a ps) (after (drop (2 * a) ps)))
+
+-- ---- the answers, put together
 
 module _ (colour : ℕ → ℕ) where
-  whole : (k : ℕ) (ps : List ℤ) (rs : List ℕ) (es : List Event)
-      → fileSewing ps rs (blocks colour k 0 0 es) ≡ Rest k (more false es) ps rs (later colour k es)
-  unfolding on
-  whole k ps rs es =
-      ap (fileSewing ps rs) (blocks-is colour k 0 0 es ∙ ap (λ (a : ℕ). blockOf colour k a ++ later colour k es) (zero-add (more false es)))
-      ∙ file-block colour k (more false es) (later colour k es) ps rs
-
-  mutual
-    unfolding more places startOf pointsAfter runs runOf later eventSewing fileSewing runsSewing sewsRun cells openLen afterOpen
-
-    -- no run is open
-    shut : (k : ℕ) (x y : ℤ) (es : List Event)
-        → Rest k (more false es) (places x y 0 es) (runs 0 es) (later colour k es) ≡ eventSewing k x y es
-    shut k x y [] = refl
-    shut k x y (stitch dx dy ∷ es) =
-        rw (runs-open 1 es, one-add (openLen es))
-        (first-stitch k x y (x +ℤ dx) (y +ℤ dy) (openLen es) (more true es) _ _ (later colour k es) (opened k (x +ℤ dx) (y +ℤ dy) 1 es))
-    shut k x y (jump dx dy ∷ es) = shut k (x +ℤ dx) (y +ℤ dy) es
-    shut k x y (change dx dy ∷ es) = whole (suc k) _ _ es ∙ shut (suc k) (x +ℤ dx) (y +ℤ dy) es
-
-    -- a run is open
-    opened : (k : ℕ) (x y : ℤ) (n : ℕ) (es : List Event)
-        → sewsRun k x y (openLen es) (places x y (suc n) es)
-        ++ Rest k (more true es) (drop (2 * openLen es) (places x y (suc n) es)) (afterOpen es) (later colour k es)
+  -- What the events to come add to the answers of a read that stands at (x, y) in block k, and that this sews what they sew.
+  record Adds (k : ℕ) (x y : ℤ) (es : List Event) : Type 0 where
+    -- points to the open run, runs to the block while a run is open and while none is; the runs and the blocks that follow
+    points : ℕ
+    open-runs : ℕ
+    shut-runs : ℕ
+    next-runs : List ℕ
+    next-blocks : List ℕ
+    runs-are : (n : ℕ) → runs (suc n) es ≡ suc (n + points) ∷ next-runs
+    open-blocks : (m n : ℕ) → blocks colour k m (suc n) es ≡ blockOf colour k (m + open-runs) ++ next-blocks
+    shut-blocks : (m : ℕ) → blocks colour k m 0 es ≡ blockOf colour k (m + shut-runs) ++ next-blocks
+    open-sews : (n : ℕ)
+        → sewsRun k x y points (places x y (suc n) es) ++ Left k open-runs (drop (2 * points) (places x y (suc n) es)) next-runs next-blocks
         ≡ eventSewing k x y es
-    opened k x y n [] = refl
-    opened k x y n (stitch dx dy ∷ es) =
-        one-stitch k x y (x +ℤ dx) (y +ℤ dy) (openLen es) (more true es) _ _ (later colour k es) (opened k (x +ℤ dx) (y +ℤ dy) (suc n) es)
-    opened k x y n (jump dx dy ∷ es) = shut k (x +ℤ dx) (y +ℤ dy) es
-    opened k x y n (change dx dy ∷ es) = whole (suc k) _ _ es ∙ shut (suc k) (x +ℤ dx) (y +ℤ dy) es
+    shut-sews : Left k shut-runs (places x y 0 es) (runs 0 es) next-blocks ≡ eventSewing k x y es
 
-  -- the sewing of a read's answers, from the events that it was told from
+  -- so a block that begins here sews them
+  begun : {k : ℕ} {x y : ℤ} {es : List Event} → Adds k x y es → fileSewing (places x y 0 es) (runs 0 es) (blocks colour k 0 0 es) ≡ eventSewing k x y es
+  begun {k} {x} {y} {es} a =
+      ap (fileSewing (places x y 0 es) (runs 0 es)) (a .shut-blocks 0 ∙ ap (λ (m : ℕ). blockOf colour k m ++ a .next-blocks) (zero-add (a .shut-runs)))
+      ∙ from-block colour k (a .shut-runs) (places x y 0 es) (runs 0 es) (a .next-blocks)
+      ∙ a .shut-sews
+
+  -- and a stitch of an open run sews one entry before them
+  joined : (k : ℕ) (x y dx dy : ℤ) (es : List Event) (a : Adds k (x +ℤ dx) (y +ℤ dy) es) (n : ℕ)
+      → sewsRun k x y (suc (a .points)) (places x y (suc n) (stitch dx dy ∷ es))
+      ++ Left k (a .open-runs) (drop (2 * suc (a .points)) (places x y (suc n) (stitch dx dy ∷ es))) (a .next-runs) (a .next-blocks)
+      ≡ eventSewing k x y (stitch dx dy ∷ es)
+  unfolding places startOf pointsAfter sewsRun eventSewing
+  joined k x y dx dy es a n =
+      from-point k x y (x +ℤ dx) (y +ℤ dy) (a .points) _ (λ (q : List ℤ). Left k (a .open-runs) q (a .next-runs) (a .next-blocks))
+      ∙ ap (entry k x y (x +ℤ dx) (y +ℤ dy)) (a .open-sews (suc n))
+
+  adds : (k : ℕ) (x y : ℤ) (es : List Event) → Adds k x y es
+  unfolding places startOf pointsAfter runs runOf blocks begunAfter eventSewing fileSewing runsSewing runSewing sewsRun cells
+  adds k x y [] = record {
+    points = 0;
+    open-runs = 0;
+    shut-runs = 0;
+    next-runs = [];
+    next-blocks = [];
+    runs-are = λ n. rw (add-zero n);
+    open-blocks = λ m n. rw (add-zero m, append-nil);
+    shut-blocks = λ m. rw (add-zero m, append-nil);
+    open-sews = λ n. refl;
+    shut-sews = refl;
+  }
+  adds k x y (stitch dx dy ∷ es) = let a : Adds k (x +ℤ dx) (y +ℤ dy) es = adds k (x +ℤ dx) (y +ℤ dy) es in record {
+    points = suc (a .points);
+    open-runs = a .open-runs;
+    shut-runs = suc (a .open-runs);
+    next-runs = a .next-runs;
+    next-blocks = a .next-blocks;
+    runs-are = λ n. a .runs-are (suc n) ∙ ap (λ (p : ℕ). suc p ∷ a .next-runs) (omega arith);
+    open-blocks = λ m n. a .open-blocks m (suc n);
+    shut-blocks = λ m. a .open-blocks (suc m) 1 ∙ ap (λ (p : ℕ). blockOf colour k p ++ a .next-blocks) (omega arith);
+    open-sews = joined k x y dx dy es a;
+    shut-sews =
+        ap (λ (rs : List ℕ). Left k (suc (a .open-runs)) (places x y 0 (stitch dx dy ∷ es)) rs (a .next-blocks)) (a .runs-are 1)
+        ∙ from-run k (a .open-runs) (suc (1 + a .points)) (places x y 0 (stitch dx dy ∷ es)) (a .next-runs) (a .next-blocks)
+        ∙ rw (one-add (a .points), double (suc (a .points))) (joined k x y dx dy es a 0);
+  }
+  adds k x y (jump dx dy ∷ es) = let a : Adds k (x +ℤ dx) (y +ℤ dy) es = adds k (x +ℤ dx) (y +ℤ dy) es in record {
+    points = 0;
+    open-runs = a .shut-runs;
+    shut-runs = a .shut-runs;
+    next-runs = runs 0 es;
+    next-blocks = a .next-blocks;
+    runs-are = λ n. rw (add-zero n);
+    open-blocks = λ m n. a .shut-blocks m;
+    shut-blocks = a .shut-blocks;
+    open-sews = λ n. a .shut-sews;
+    shut-sews = a .shut-sews;
+  }
+  adds k x y (change dx dy ∷ es) = let a : Adds (suc k) (x +ℤ dx) (y +ℤ dy) es = adds (suc k) (x +ℤ dx) (y +ℤ dy) es in record {
+    points = 0;
+    open-runs = 0;
+    shut-runs = 0;
+    next-runs = runs 0 es;
+    next-blocks = blocks colour (suc k) 0 0 es;
+    runs-are = λ n. rw (add-zero n);
+    open-blocks = λ m n. rw (add-zero m);
+    shut-blocks = λ m. rw (add-zero m);
+    open-sews = λ n. begun a;
+    shut-sews = begun a;
+  }
+
   pub answer-sewing : (es : List Event)
       → fileSewing (places (pos 0) (pos 0) 0 es) (runs 0 es) (blocks colour 0 0 0 es) ≡ eventSewing 0 (pos 0) (pos 0) es
-  answer-sewing es = whole 0 _ _ es ∙ shut 0 (pos 0) (pos 0) es
+  answer-sewing es = begun (adds 0 (pos 0) (pos 0) es)

@@ -39,7 +39,7 @@ use Rattle.sewing.specs.EventSewing.{eventSewing, sew-stitch, sew-jump, 
 use Rattle.sewing.specs.Accepting.{Good}
 use Rattle.sewing.specs.Round.{sewn, Owed, round}
 
--- ---- the reader stays in its bytes
+-- ---- records lie in the bytes
 
 two-in : (jef : Bool) (len : ℕ) (dx dy : ℤ) → 4 ≤ len → Within len (two jef dx dy)
 unfolding two

@@ -66,7 +66,7 @@ pub pec-inside : Inside pecFirst
 unfolding pecFirst
 pec-inside s = within-pick _ (starts 0xFF 0x00 s) Finish _ tt (within-pick _ (starts 0xFE 0xB0 s) _ _ (change-in s) (step-in s (axisOf s) (axis-in s)))
 
--- ---- one axis, read back
+-- ---- the bytes of one axis
 
 wide-value : (flag n : ℕ) → flag % 16 ≡ 0 → n < 4096 → (flag + n / 256) % 16 * 256 + n % 256 ≡ n
 wide-value flag n f h = omega arith
@@ -104,7 +104,7 @@ drop-value : (z : ℤ) (rest : List ℕ) → drop (size z) (pecValue z ++ rest) 
 unfolding pecValue size wide
 drop-value z rest = by-test (between (negℤ (pos 63)) (pos 62) z) (λ t. rw t) (λ t. rw t)
 
--- ---- a record whose first byte is no control
+-- ---- two axes
 
 starts-no : (a b c : ℕ) (s : List ℕ) → c ≢ a → starts a b (c ∷ s) ≡ false
 unfolding starts
@@ -133,7 +133,7 @@ step-is : (s : List ℕ) {j j′ : Bool} {dx dy : ℤ} {n m : ℕ} → axisOf s 
 unfolding afterAxis
 step-is s {j} {j′} {dx} {dy} {n} {m} e e′ = ap (λ (p : Axis). bothAxes p (afterAxis p s)) e ∙ ap (bothAxes (axis j dx n)) e′
 
--- ---- what is read of what is written
+-- ---- each command's bytes
 
 pec-move : (dx dy : ℤ) (rest : List ℕ) → InBits 11 dx → InBits 11 dy
     → events pecFirst (pecValue dx ++ (pecValue dy ++ rest)) ≡ stitch dx dy ∷ events pecFirst rest

@@ -32,7 +32,7 @@ pub record Owed {S : Type 0} (first : List ℕ → Record) (fits : ℤ → ℤ �
   pub changes : (s : S) (rest : List ℕ) (k : ℕ) (x y : ℤ) → sewn first (cmd s ColorChange (pos 0) (pos 0) ++ rest) k x y ≡ sewn first rest (suc k) x y
   pub ends : (s : S) (k : ℕ) (x y : ℤ) → sewn first (cmd s End (pos 0) (pos 0) ++ tail) k x y ≡ []
 
--- a step leads from where it was taken
+-- adding the difference of two places to the first gives the second
 pub arrive : (x x′ : ℤ) → x +ℤ (x′ -ℤ x) ≡ x′
 arrive x x′ = +ℤ-comm x (x′ -ℤ x) ∙ -ℤ-+ℤ-cancel x′ x
 
@@ -53,7 +53,7 @@ module _ {S : Type 0} (first : List ℕ → Record) (fits : ℤ → ℤ → Bool
     (w-cons : (s : S) (x y : ℤ) (c : Cmd) (cs : List Cmd)
     → W s x y (c ∷ cs) ≡ cmd s (opOf (c .kind)) (c .x -ℤ x) (c .y -ℤ y) ++ W (next s (opOf (c .kind))) (c .x) (c .y) cs)
     (F : Owed first fits cmd tail) where
-  -- what a command that stands still comes to
+  -- a command at the place before it
   spot : (s : S) (op : Op) (k k′ : ℕ) (x y x′ y′ : ℤ) (rest : List ℕ) → samePlace x y x′ y′ ≡ true
       → sewn first (cmd s op (pos 0) (pos 0) ++ rest) k x y ≡ sewn first rest k′ x y
       → sewn first (cmd s op (x′ -ℤ x) (y′ -ℤ y) ++ rest) k x y ≡ sewn first rest k′ x′ y′
