@@ -1,0 +1,33 @@
+-- Both bytes are small.
+use native.Mathlib.Omega.{arith}
+use Prim.Native.Nat.{_^_, _<_}
+use lib.IntN.{pos, _-ℤ_}
+use mir.Syntax.{w32}
+use mir.Facts.{toZ-ofZ, toZ-pos}
+use Rattle.records.proofs.Signs.{less-size, small-fits}
+use borrow.Author.Needs.{needs}
+use Rattle.records.proofs.bytes.less.Statement.{statement}
+use Rattle.records.proofs.bytes.less.Tie as tie
+
+cast-result : tie.Need-cast-result
+cast-result c = search needs
+
+cast-result-2 : tie.Need-cast-result-2
+cast-result-2 c = search needs
+
+sub-result : tie.Need-sub-result
+sub-result c =
+    let a = c .args in
+    let h : a .a < 2 ^ 31 = omega arith in
+    let k : a .b < 2 ^ 31 = omega arith in
+    rw (toZ-pos w32 h, toZ-pos w32 k) (small-fits (pos (a .a) -ℤ pos (a .b)) (omega (arith, less-size (a .a) (a .b))))
+
+returns : tie.Need-returns
+returns c =
+    let a = c .args in
+    let h : a .a < 2 ^ 31 = omega arith in
+    let k : a .b < 2 ^ 31 = omega arith in
+    rw (toZ-pos w32 h, toZ-pos w32 k) (toZ-ofZ (small-fits (pos (a .a) -ℤ pos (a .b)) (omega (arith, less-size (a .a) (a .b)))))
+
+pub less-spec : {M : Type 1} → statement M
+less-spec = tie.close (tie.spec cast-result cast-result-2 sub-result returns)

@@ -1,0 +1,26 @@
+// What stands at a place of a file: the record there, in each format.
+pub mod bytes;
+pub mod dst;
+pub mod pair;
+pub mod pec;
+
+use crate::dst::dst_record;
+use crate::pair::exp_record;
+use crate::pec::pec_record;
+use rules::Format;
+use rules::Record;
+ghost use mathlib.Core.Path.{_≡_};
+ghost use lib.ListN.{drop};
+ghost use Rattle.rules.specs.Files.{firstOf};
+
+// One record, from byte `at` of the stitches; `Finish` from their end on.
+pub fn record_at(f: Format, file: &[u8], at: usize) -> Record
+    ensures { λ r. ⌜ r ≡ firstOf f (drop at (now (file .entry))) ⌝ }
+{
+    match f {
+        Format::Pes | Format::Pec => pec_record(file, at),
+        Format::Dst => dst_record(file, at),
+        Format::Exp => exp_record(false, file, at),
+        Format::Jef => exp_record(true, file, at),
+    }
+}
