@@ -1,0 +1,5 @@
+pub mod Texts
+pub mod Lines
+pub mod Words
+pub mod Marks
+pub mod Colors

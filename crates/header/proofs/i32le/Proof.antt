@@ -1,0 +1,83 @@
+-- `i32le` meets its contract. Assumes nothing.
+use mir.Syntax.{w32}
+use Rattle.laws.specs.Ints.{ret}
+use Prim.Native.Nat.{ℕ, _+_}
+use Rattle.header.specs.declared.Word.the-variants.{Missing, Number}
+use mathlib.Core.Path.{ap, sym, _∙_}
+use Rattle.rules.specs.Files.{wordAt}
+use Rattle.rules.specs.Vocabulary.{signed}
+use Rattle.header.proofs.Words.{four}
+use Rattle.laws.specs.Tests.{pick-le, pick-gt}
+use native.Mathlib.Omega.{arith}
+use denote.Ref.{now}
+use lib.ListN.{length}
+use borrow.Author.Needs.{needs}
+use Rattle.header.proofs.i32le.Statement.{statement}
+use Rattle.header.proofs.i32le.Tie as tie
+
+returns : tie.Need-returns
+returns c =
+    let a = c .before .before .args in
+    sym (pick-gt (a .at + 4) (length (now (a .file))) (Number (wordAt (a .at) (now (a .file)))) Missing (omega arith))
+
+sub-if2 : tie.Need-sub-if2
+sub-if2 c = search needs
+
+returns-2 : tie.Need-returns-2
+returns-2 c =
+    let a = c .before .before .before .args in
+    sym (pick-gt (a .at + 4) (length (now (a .file))) (Number (wordAt (a .at) (now (a .file)))) Missing (omega arith))
+
+shared-slice-read-of-bytes : tie.Need-shared-slice-read-of-bytes
+shared-slice-read-of-bytes c = search needs
+
+add-of-bytes : tie.Need-add-of-bytes
+add-of-bytes c = search needs
+
+shared-slice-read-of-bytes-2 : tie.Need-shared-slice-read-of-bytes-2
+shared-slice-read-of-bytes-2 c = search needs
+
+add-of-bytes-2 : tie.Need-add-of-bytes-2
+add-of-bytes-2 c = search needs
+
+shared-slice-read-of-bytes-3 : tie.Need-shared-slice-read-of-bytes-3
+shared-slice-read-of-bytes-3 c = search needs
+
+add-of-bytes-3 : tie.Need-add-of-bytes-3
+add-of-bytes-3 c = search needs
+
+shared-slice-read-of-bytes-4 : tie.Need-shared-slice-read-of-bytes-4
+shared-slice-read-of-bytes-4 c = search needs
+
+of-bytes-requires : tie.Need-of-bytes-requires
+of-bytes-requires c κs = search needs
+
+signed32-requires : tie.Need-signed32-requires
+signed32-requires c κs = search needs
+
+returns-3 : tie.Need-returns-3
+unfolding wordAt
+returns-3 c =
+    let a = c .before .before .before .before .before .before .before .before .before .args in
+    let s = now (a .file) in
+    ap Number (ret w32 (c .signed32 .result) (c .signed32 .ok) ∙ c .signed32 .ensures)
+    ∙ ap (λ (n : ℕ). Number (signed 31 n)) (c .before .of-bytes .ensures ∙ sym (four s (a .at) (omega arith)))
+    ∙ sym (pick-le (a .at + 4) (length s) (Number (wordAt (a .at) s)) Missing (omega arith))
+
+pub i32le-spec : {M : Type 1} → statement M
+i32le-spec =
+    tie.close
+    (tie.spec
+    returns
+    sub-if2
+    returns-2
+    shared-slice-read-of-bytes
+    add-of-bytes
+    shared-slice-read-of-bytes-2
+    add-of-bytes-2
+    shared-slice-read-of-bytes-3
+    add-of-bytes-3
+    shared-slice-read-of-bytes-4
+    of-bytes-requires
+    signed32-requires
+    returns-3)

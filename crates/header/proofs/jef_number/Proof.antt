@@ -1,0 +1,75 @@
+-- The thread of a number. Assumes nothing.
+use mir.Syntax.{w32}
+use mir.Val.{toZ, ofZ}
+use Rattle.laws.specs.Ints.{ret}
+use Prim.Native.Nat.{ℕ, _+_, _*_, _%_}
+use mathlib.Core.Path.{_≡_, sym, ap, _∙_}
+use native.Mathlib.Omega.{arith}
+use denote.Ref.{now}
+use lib.IntN.{ℤ, natAbs}
+use lib.ListN.{getD, length}
+use lib.Dec.{leb}
+use borrow.Author.Tests.{le-leb}
+use Rattle.rules.specs.Files.{colorNumber}
+use Rattle.rules.specs.Charts.{color, jefChart}
+use Rattle.laws.specs.Tests.{clash}
+use Rattle.header.proofs.Colors.{word-there, word-missing}
+use borrow.Author.Needs.{needs}
+use Rattle.header.proofs.jef_number.Statement.{statement}
+use Rattle.header.proofs.jef_number.Tie as tie
+
+mul-i32le : tie.Need-mul-i32le
+mul-i32le c = search needs
+
+add-i32le : tie.Need-add-i32le
+add-i32le c = search needs
+
+i32le-requires : tie.Need-i32le-requires
+i32le-requires c κs = search needs
+
+enum-known-w : tie.Need-enum-known-w
+enum-known-w c = search needs
+
+enum-told : tie.Need-enum-told
+enum-told c = search needs
+
+returns : tie.Need-returns
+returns c =
+    let a = c .before .before .before .before .args in
+    let m : ℕ = 116 + 4 * a .k in
+    clash (leb (m + 4) (length (now (a .file)))) (le-leb (m + 4) (length (now (a .file))) (omega (arith, c .before .before .before .before .pre .1))) (word-missing m (now (a .file)) (sym (c .before .before .i32le .ensures) ∙ c .enum-told .given .1))
+
+magnitude-requires : tie.Need-magnitude-requires
+magnitude-requires c κs = search needs
+
+jef-thread-requires : tie.Need-jef-thread-requires
+jef-thread-requires c κs = search needs
+
+number-of-requires : tie.Need-number-of-requires
+number-of-requires c κs = search needs
+
+returns-2 : tie.Need-returns-2
+returns-2 c =
+    let a = c .before .before .before .before .before .before .before .before .args in
+    let z : ℤ = c .before .before .before .before .w .given .0 .0 in
+    let t = word-there (116 + 4 * a .k) (now (a .file)) (sym (c .before .before .before .before .before .before .i32le .ensures) ∙ c .before .before .before .before .w .given .1) in
+    let r : toZ w32 (ofZ w32 z) ≡ z = ret w32 z (c .before .before .before .known-told .given .0 .1) in
+    c .number-of .ensures
+    ∙ ap colorNumber
+    (c .before .jef-thread .ensures
+    ∙ ap (λ (n : ℕ). getD jefChart (n % 79) (color 0 0 0)) (c .before .before .magnitude .ensures ∙ ap natAbs (r ∙ sym (t .1))))
+
+pub jef-number-spec : {M : Type 1} → statement M
+jef-number-spec =
+    tie.close
+    (tie.spec
+    mul-i32le
+    add-i32le
+    i32le-requires
+    enum-known-w
+    enum-told
+    returns
+    magnitude-requires
+    jef-thread-requires
+    number-of-requires
+    returns-2)

@@ -1,0 +1,36 @@
+-- A line that begins `TC:`, and another. Assumes nothing.
+use mathlib.Core.List.{List}
+use Prim.Native.Nat.{ℕ}
+use mathlib.Core.Path.{sym, ap, _∙_}
+use native.Mathlib.Omega.{arith}
+use denote.Ref.{now}
+use lib.ListN.{length}
+use Rattle.rules.specs.Files.{lineColor, sixDigits, dropHashes, trimmed, beforeComma}
+use Rattle.header.proofs.Texts.{take-rest}
+use borrow.Author.Needs.{needs}
+use Rattle.header.proofs.line_color.Statement.{statement}
+use Rattle.header.proofs.line_color.Tie as tie
+
+is-begun-requires : tie.Need-is-begun-requires
+is-begun-requires c κs = search needs
+
+part-requires : tie.Need-part-requires
+part-requires c κs = search needs
+
+text-color-requires : tie.Need-text-color-requires
+text-color-requires c κs = search needs
+
+returns : tie.Need-returns
+unfolding lineColor
+returns c =
+    let l = now (c .before .before .before .before .before .args .line) in
+    rw (sym (c .before .before .before .is-begun .ensures) ∙ c .before .before .if1 .taken)
+    (c .text-color .ensures ∙ ap (λ (t : List ℕ). sixDigits (dropHashes (trimmed (beforeComma t)))) (c .before .part .ensures ∙ take-rest (length l) 3 l (omega arith)))
+
+returns-2 : tie.Need-returns-2
+unfolding lineColor
+returns-2 c = rw (sym (c .before .is-begun .ensures) ∙ c .if1 .left)
+
+pub line-color-spec : {M : Type 1} → statement M
+line-color-spec =
+    tie.close (tie.spec is-begun-requires part-requires text-color-requires returns returns-2)

@@ -1,0 +1,97 @@
+-- Each cell that was passed has its colour. Assumes nothing.
+use Prim.Native.Nat.{ℕ, _-_, _≤_, _<_}
+use mathlib.Core.Path.{_≡_, refl, _∙_}
+use native.Mathlib.Omega.{arith}
+use denote.Ref.{now}
+use lib.ListN.{length, getD, length-set}
+use Rattle.rules.specs.Files.{pecColor}
+use Rattle.header.specs.Colors.{Held}
+use Rattle.header.proofs.Colors.{held-more, pec-held, pec-past}
+use Rattle.header.proofs.pec_table.Statement.{statement}
+use Rattle.header.proofs.pec_table.Tie as tie
+
+abbrev Inv-loop : tie.InvT-loop
+Inv-loop file start colors₀ n k₀ colors k =
+    (k ≤ n)
+    × ((n ≤ 256)
+    × ((length colors ≡ length colors₀) × ((j : ℕ) → j < k → Held (pecColor start file j) (getD colors j 0))))
+
+abbrev μ-loop : tie.MeasureT-loop
+μ-loop file start colors₀ n k₀ colors k = n - k
+
+byte-at-requires : tie.Need-byte-at-requires Inv-loop μ-loop
+byte-at-requires c κs = tt
+
+cast-n : tie.Need-cast-n Inv-loop μ-loop
+cast-n c = omega arith
+
+add-n : tie.Need-add-n Inv-loop μ-loop
+add-n c = omega arith
+
+loop-holds : tie.Need-loop-holds Inv-loop μ-loop
+loop-holds c = (omega arith, (omega arith, (refl, λ j l. absurd (omega arith))))
+
+pec-number-requires : tie.Need-pec-number-requires Inv-loop μ-loop
+pec-number-requires c κs = omega arith
+
+mul-colors : tie.Need-mul-colors Inv-loop μ-loop
+mul-colors c = omega (arith, c .before .before .before .before .before .before .pre)
+
+slice-write-colors : tie.Need-slice-write-colors Inv-loop μ-loop
+slice-write-colors c = omega (arith, c .before .before .before .before .before .before .pre)
+
+add-k : tie.Need-add-k Inv-loop μ-loop
+add-k c = omega arith
+
+loop-less : tie.Need-loop-less Inv-loop μ-loop
+loop-less c = omega arith
+
+loop-again : tie.Need-loop-again Inv-loop μ-loop
+loop-again c =
+    let a = c .before .before .before .before .before .before .args in
+    let h = c .before .before .loop in
+    let f = now (a .file) in (
+      omega arith,
+      (
+        omega arith,
+        (
+          length-set (h .colors) (h .k) (c .pec-number .result) ∙ h .inv .1 .1 .0,
+          held-more (pecColor (a .start) f) (h .colors) (h .k) (c .pec-number .result) (omega (arith, c .before .before .before .before .before .before .pre))
+              (pec-held (a .start) f (h .k) (omega (arith, c .before .before .before .byte-at .ensures)) (c .pec-number .ensures)) (h .inv .1 .1 .1),
+        ),
+      ),
+    )
+
+same-length : tie.Need-same-length Inv-loop μ-loop
+same-length c = c .before .loop .inv .1 .1 .0
+
+returns : tie.Need-returns Inv-loop μ-loop
+returns c =
+    let a = c .before .before .before .before .before .args in
+    let h = c .before .loop in (
+      record {
+        room = omega arith;
+        here = λ j l. h .inv .1 .1 .1 j (omega arith);
+        past = λ j l. pec-past (a .start) (now (a .file)) j (omega (arith, c .before .before .byte-at .ensures));
+      },
+      omega (arith, c .before .before .byte-at .ensures),
+    )
+
+pub pec-table-spec : {M : Type 1} → statement M
+pec-table-spec =
+    tie.close
+    (tie.spec
+    Inv-loop
+    μ-loop
+    byte-at-requires
+    cast-n
+    add-n
+    loop-holds
+    pec-number-requires
+    mul-colors
+    slice-write-colors
+    add-k
+    loop-less
+    loop-again
+    same-length
+    returns)
