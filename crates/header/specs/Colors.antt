@@ -12,7 +12,7 @@ abbrev pub Held : Slot → ℕ → Type 0
 Held Empty n = ⊥
 Held (Thread c) n = n ≡ colorNumber c
 
--- the first r cells are the stored colours, and no more are stored
+-- the first r cells are the stored colours, and no more are stored; the cells from r on are free, and a reader takes only the first r
 pub record Stored (f : ℕ → Slot) (cells : List ℕ) (r : ℕ) : Type 0 where
   pub room : r ≤ 256
   pub here : (k : ℕ) → k < r → Held (f k) (getD cells k 0)

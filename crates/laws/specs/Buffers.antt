@@ -13,11 +13,11 @@ pub record Put {A : Type 0} (d d′ : List A) (at r : ℕ) (vs : List A) : Type 
   pub ends : r ≡ at + length vs
   pub stored : d′ ≡ sets d at vs
 
--- d₀ is the buffer at first, `whole` is what it gets from `base` on, d is the buffer now, written as far as n, and `todo` is still to come
-pub record Writing {A : Type 0} (d₀ : List A) (base : ℕ) (whole d : List A) (n : ℕ) (todo : List A) : Type 0 where
+-- d₀ is the buffer at first, `whole` is what it gets from `base` on, d is the buffer now, written as far as n, and `coming` is still to come
+pub record Writing {A : Type 0} (d₀ : List A) (base : ℕ) (whole d : List A) (n : ℕ) (coming : List A) : Type 0 where
   pub same : length d ≡ length d₀
-  pub rest : sets d n todo ≡ sets d₀ base whole
-  pub place : n + length todo ≡ base + length whole
+  pub rest : sets d n coming ≡ sets d₀ base whole
+  pub place : n + length coming ≡ base + length whole
   pub room : base + length whole ≤ length d₀
 
 module _ {A : Type 0} where
@@ -67,13 +67,13 @@ module _ {A : Type 0} where
   pub writing-start : (d : List A) (base : ℕ) (whole : List A) → base + length whole ≤ length d → Writing d base whole d base whole
   writing-start d base whole h = record { same = refl; rest = refl; place = refl; room = h }
 
-  module _ {d₀ whole d todo : List A} {base n : ℕ} where
+  module _ {d₀ whole d coming : List A} {base n : ℕ} where
     -- what comes next has room
-    pub writing-room : (vs ws : List A) → Writing d₀ base whole d n todo → todo ≡ vs ++ ws → n + length vs ≤ length d
+    pub writing-room : (vs ws : List A) → Writing d₀ base whole d n coming → coming ≡ vs ++ ws → n + length vs ≤ length d
     writing-room vs ws w e = omega (arith, ap length e, length-append vs ws)
 
     -- what comes next is put
-    pub writing-more : {vs ws d′ : List A} {m : ℕ} → Writing d₀ base whole d n todo → todo ≡ vs ++ ws → Put d d′ n m vs → Writing d₀ base whole d′ m ws
+    pub writing-more : {vs ws d′ : List A} {m : ℕ} → Writing d₀ base whole d n coming → coming ≡ vs ++ ws → Put d d′ n m vs → Writing d₀ base whole d′ m ws
     writing-more {vs} {ws} w e p = record {
       same = put-length p ∙ w .same;
       rest = rw (p .stored, p .ends, ← sets-append d n vs ws, ← e) (w .rest);
@@ -82,8 +82,8 @@ module _ {A : Type 0} where
     }
 
     -- what comes next is one value, stored at its index
-    pub writing-one : {v : A} {ws : List A} → Writing d₀ base whole d n todo → todo ≡ v ∷ ws → Writing d₀ base whole (set d n v) (n + 1) ws
+    pub writing-one : {v : A} {ws : List A} → Writing d₀ base whole d n coming → coming ≡ v ∷ ws → Writing d₀ base whole (set d n v) (n + 1) ws
     writing-one {v} w e = writing-more w e (put-one d n v)
 
-    pub writing-done : Writing d₀ base whole d n todo → todo ≡ [] → Put d₀ d base n whole
+    pub writing-done : Writing d₀ base whole d n coming → coming ≡ [] → Put d₀ d base n whole
     writing-done w e = record { ends = omega (arith, ap length e); stored = rw e at (w .rest) }
