@@ -339,7 +339,8 @@ fn line_colors(s: &[u8], colors: &mut [u32]) -> usize
 }
 
 // The colours of a DST file.
-pub fn dst_colors(file: &[u8], colors: &mut [u32; 256]) -> usize
+pub fn dst_colors(file: &[u8], colors: &mut [u32]) -> usize
+    requires { ⌜ 256 ≤ length (now colors) ⌝ }
     ensures { λ r. ⌜ Stored (slotAt (lineColors (linesOf (take 512 (now (file .entry)))))) (now (colors .exit)) r ⌝ }
     ensures { λ r. ⌜ r ≡ length (lineColors (linesOf (take 512 (now (file .entry))))) ⌝ }
     ensures { λ r. ⌜ take r (now (colors .exit)) ≡ map colorNumber (lineColors (linesOf (take 512 (now (file .entry))))) ⌝ }
@@ -369,7 +370,8 @@ fn pec_number(file: &[u8], start: usize, k: usize) -> u32
     number_of(pec_data::pec_thread((b % 65) as usize))
 }
 
-fn pec_table(file: &[u8], start: usize, colors: &mut [u32]) -> usize
+// The colours of a PEC part that begins at start: one more than its count byte says.
+pub fn pec_colors(file: &[u8], start: usize, colors: &mut [u32]) -> usize
     requires { ⌜ 256 ≤ length (now colors) ⌝ }
     ensures { λ r. ⌜ Stored (pecColor start (now (file .entry))) (now (colors .exit)) r ⌝ }
     ensures { λ r. ⌜ r ≡ getD (now (file .entry)) (start + 48) 0 + 1 ⌝ }
@@ -381,14 +383,6 @@ fn pec_table(file: &[u8], start: usize, colors: &mut [u32]) -> usize
         k += 1;
     }
     n
-}
-
-// The colours of a PEC part that begins at start: one more than its count byte says.
-pub fn pec_colors(file: &[u8], start: usize, colors: &mut [u32; 256]) -> usize
-    ensures { λ r. ⌜ Stored (pecColor start (now (file .entry))) (now (colors .exit)) r ⌝ }
-    ensures { λ r. ⌜ r ≡ getD (now (file .entry)) (start + 48) 0 + 1 ⌝ }
-{
-    pec_table(file, start, colors)
 }
 
 // How far a number is from 0.
@@ -432,7 +426,8 @@ fn jef_number(file: &[u8], k: usize) -> u32
     number_of(jef_data::jef_thread(magnitude(z) % 79))
 }
 
-fn jef_table(file: &[u8], colors: &mut [u32]) -> usize
+// The colours of a JEF file: as many as it says, as far as they are in the file.
+pub fn jef_colors(file: &[u8], colors: &mut [u32]) -> usize
     requires { ⌜ 256 ≤ length (now colors) ⌝ }
     ensures { λ r. ⌜ Stored (jefColor (now (file .entry))) (now (colors .exit)) r ⌝ }
 {
@@ -446,11 +441,4 @@ fn jef_table(file: &[u8], colors: &mut [u32]) -> usize
         k += 1;
     }
     k
-}
-
-// The colours of a JEF file: as many as it says, as far as they are in the file.
-pub fn jef_colors(file: &[u8], colors: &mut [u32; 256]) -> usize
-    ensures { λ r. ⌜ Stored (jefColor (now (file .entry))) (now (colors .exit)) r ⌝ }
-{
-    jef_table(file, colors)
 }

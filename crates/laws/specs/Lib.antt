@@ -12,3 +12,5 @@ pub mod Choosing
 pub mod Listing
 pub mod Neighbours
 pub mod Reading
+pub mod Verdicts
+pub mod Arms

@@ -1,9 +1,9 @@
 -- Laws that more than one proof cites, and what a reader needs of every format.
 pub mod Signs
 pub mod Parts
-pub mod Arms
 pub mod Formats
 pub mod Pairs
 pub mod Halves
 pub mod Dsts
 pub mod Pecs
+pub mod Plains

@@ -3,6 +3,7 @@ pub mod bytes;
 pub mod dst;
 pub mod pair;
 pub mod pec;
+pub mod plain;
 
 use crate::dst::dst_record;
 use crate::pair::exp_record;

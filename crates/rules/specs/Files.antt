@@ -8,7 +8,7 @@ use lib.Dec.{eqb, ltb, leb}
 use lib.ListN.{length, take, drop, getD}
 use Rattle.rules.specs.Vocabulary.{pick, signed, fromLittle, sameBytes}
 use Rattle.rules.specs.Lists.{threadsOf}
-use Rattle.rules.specs.Refusals.{verdict, extensionOf}
+use Rattle.rules.specs.Refusals.{numberOf, verdict}
 use Rattle.rules.specs.Charts.{color, pecChart, jefChart}
 use Rattle.rules.specs.Records.{Event, events}
 use Rattle.rules.specs.Dst.{dstFirst, dstFile}
@@ -16,19 +16,23 @@ use Rattle.rules.specs.Pec.{pecFirst, pecFile}
 use Rattle.rules.specs.Pes.{pesFile}
 use Rattle.rules.specs.Exp.{pairFirst, expFile}
 use Rattle.rules.specs.Jef.{jefFile}
-use Rattle.rules.specs.Answers.{places, runs, blocks}
+use Rattle.rules.specs.Answers.{places, runs, blocks, pointTotal, blockTotal, cuts}
 use Rattle.rules.specs.declared.Cmd.{Cmd}
 use Rattle.rules.specs.declared.Color.{Color}
+use Rattle.rules.specs.declared.Counts.{Counts}
 use Rattle.rules.specs.declared.Extension.{Extension}
 use Rattle.rules.specs.declared.Extension.the-variants.{Of, Unknown}
 use Rattle.rules.specs.declared.Format.{Format}
 use Rattle.rules.specs.declared.Format.the-variants.{Pes, Pec, Dst, Exp, Jef}
+use Rattle.rules.specs.declared.ReadAnswer.{ReadAnswer}
+use Rattle.rules.specs.declared.ReadAnswer.the-variants.{Read, Unread}
 use Rattle.rules.specs.declared.Record.{Record}
 use Rattle.rules.specs.declared.Refusal.{Refusal}
 use Rattle.rules.specs.declared.Refusal.the-variants.{UnknownExtension, FileTooLong, NotPes, FileTooShort, StartBelowZero, BufferTooShort}
 use Rattle.rules.specs.declared.Slot.{Slot}
 use Rattle.rules.specs.declared.Slot.the-variants.{Empty, Thread}
 use Rattle.rules.specs.declared.Verdict.{Verdict}
+use Rattle.rules.specs.declared.Verdict.the-variants.{Accepted, Refused}
 
 -- ---- writing
 
@@ -274,3 +278,50 @@ fileVerdict (Of f) s = verdict (fileRefusals f s)
 unfoldable pub readVerdict : Extension → List ℕ → ℕ → ℕ → ℕ → Verdict
 readVerdict Unknown s n m k = verdict ((UnknownExtension, true) ∷ [])
 readVerdict (Of f) s n m k = verdict (fileRefusals f s ++ (BufferTooShort, noRoom f s n m k) ∷ [])
+
+-- ---- reading: what the calls give back
+
+-- the three answers by extension
+unfoldable pub placesTold : Extension → List ℕ → List ℤ
+placesTold Unknown s = []
+placesTold (Of f) s = placesOf f s
+
+unfoldable pub runsTold : Extension → List ℕ → List ℕ
+runsTold Unknown s = []
+runsTold (Of f) s = runsOf f s
+
+unfoldable pub blocksTold : Extension → List ℕ → List ℕ
+blocksTold Unknown s = []
+blocksTold (Of f) s = blocksOf f s
+
+-- points, runs, blocks listed and cuts, counted from the three answers
+unfoldable pub countsOf : List ℤ → List ℕ → List ℕ → Counts
+countsOf ps rs bs = record { points = pointTotal ps; runs = length rs; blocks = blockTotal bs; cuts = cuts rs bs }
+
+-- what a read answers under a verdict
+unfoldable pub readAnswer : Verdict → Counts → ReadAnswer
+readAnswer Accepted c = Read c
+readAnswer (Refused r) c = Unread r
+
+-- A refusal gives its number and zero counts; without one the number is 0.
+unfoldable pub readNumber : ReadAnswer → ℕ
+readNumber (Read c) = 0
+readNumber (Unread r) = numberOf r
+
+unfoldable pub readCounts : ReadAnswer → Counts
+readCounts (Read c) = c
+readCounts (Unread r) = record { points = 0; runs = 0; blocks = 0; cuts = 0 }
+
+-- a lent buffer after the call: the answer at its front, and cells past the answer stay; a refusal writes nothing
+unfoldable pub filled : {A : Type 0} → Verdict → List A → List A → List A
+filled Accepted answer l = answer ++ drop (length answer) l
+filled (Refused r) answer l = l
+
+-- the label by its own call, which meets every refusal of reading but 11: empty under each
+unfoldable pub labelUnder : Verdict → List ℕ → List ℕ
+labelUnder Accepted label = label
+labelUnder (Refused r) label = []
+
+unfoldable pub labelTold : Extension → List ℕ → List ℕ
+labelTold Unknown s = []
+labelTold (Of f) s = labelUnder (fileVerdict (Of f) s) (labelOf f s)

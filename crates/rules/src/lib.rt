@@ -74,6 +74,20 @@ pub enum Verdict {
     Refused(Refusal),
 }
 
+// How much a read found: points, runs, blocks listed, and cuts.
+pub struct Counts {
+    pub points: u32,
+    pub runs: u32,
+    pub blocks: u32,
+    pub cuts: u32,
+}
+
+// What a read answers.
+pub enum ReadAnswer {
+    Read(Counts),
+    Unread(Refusal),
+}
+
 // What the first record of a list of bytes does, by how far it moves, and the bytes it takes.
 pub enum Record {
     StitchBy { dx: i32, dy: i32, len: usize },

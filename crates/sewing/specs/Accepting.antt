@@ -19,6 +19,7 @@ use Rattle.rules.specs.declared.Op.the-variants.{Stitch, Jump, Trim, ColorChang
 use Rattle.rules.specs.declared.Refusal.{Refusal}
 use Rattle.rules.specs.declared.Verdict.{Verdict}
 use Rattle.rules.specs.declared.Verdict.the-variants.{Accepted, Refused}
+use Rattle.laws.specs.Verdicts.{first-false}
 use Rattle.laws.specs.Tests.{by-test, false-true, clash, or-no-left, or-no-right, and-left, and-right, true-is}
 
 -- none of 6 to 10 holds
@@ -28,11 +29,6 @@ pub record Taken (f : Format) (xs ys : List ℤ) (kinds threads : List ℕ) : Ty
   pub few : tooMany (commands xs ys kinds) threads ≡ false
   pub still : moved (commands xs ys kinds) ≡ false
   pub steps : stepTooLong f (commands xs ys kinds) ≡ false
-
--- an accepted table: its first condition does not hold, and the rest is accepted
-pub first-false : (b : Bool) (r : Refusal) (v : Verdict) → pick b (Refused r) v ≡ Accepted → (b ≡ false) × (v ≡ Accepted)
-first-false true r v e = let z : _≡_ {A = ℕ} 0 1 = cc in absurd (omega arith)
-first-false false r v e = (refl, e)
 
 pub taken : (f : Format) (xs ys : List ℤ) (kinds threads : List ℕ) → listVerdict f xs ys kinds threads ≡ Accepted → Taken f xs ys kinds threads
 unfolding listVerdict verdict

@@ -24,8 +24,9 @@ use Rattle.rules.specs.declared.Refusal.{Refusal}
 use Rattle.rules.specs.declared.Verdict.the-variants.{Accepted, Refused}
 use Rattle.laws.specs.Tests.{or-no-left, or-no-right}
 use Rattle.laws.specs.Listing.{length-commands}
+use Rattle.laws.specs.Verdicts.{verdict-on}
 use Rattle.sewing.specs.EventSewing.{eventSewing, answer-sewing}
-use Rattle.sewing.specs.Accepting.{Taken, taken, Good, Shape, shape-of, accepted-good, first-false}
+use Rattle.sewing.specs.Accepting.{Taken, taken, Good, Shape, shape-of, accepted-good}
 use Rattle.sewing.specs.DstSewing.{dst-sewing, dst-taken}
 use Rattle.sewing.specs.PairSewing.{exp-sewing, exp-taken, jef-sewing, jef-taken}
 use Rattle.sewing.specs.PecFiles.{Few, pec-sewing, pec-taken, pes-sewing, pes-taken}
@@ -104,14 +105,9 @@ same-sewing f g name name′ xs ys xs′ ys′ kinds threads kinds′ threads′
 
 -- ---- with buffers that hold the answer, the read is not refused either
 
-verdict-both : (rs bs : List (Refusal × Bool)) → verdict rs ≡ Accepted → verdict bs ≡ Accepted → verdict (rs ++ bs) ≡ Accepted
-unfolding verdict
-verdict-both [] bs e h = h
-verdict-both (r ∷ rs) bs e h = let p = first-false (r .1) (r .0) (verdict rs) e in rw (p .0) (verdict-both rs bs (p .1) h)
-
 pub read-accepted : (f : Format) (s : List ℕ) (n m k : ℕ) → fileVerdict (Of f) s ≡ Accepted
     → length (placesOf f s) ≤ n → length (runsOf f s) ≤ m → length (blocksOf f s) ≤ k → readVerdict (Of f) s n m k ≡ Accepted
 unfolding fileVerdict readVerdict noRoom verdict
 read-accepted f s n m k e a b c =
-    verdict-both (fileRefusals f s) _ e
-    (rw (le-ltb n (length (placesOf f s)) a, le-ltb m (length (runsOf f s)) b, le-ltb k (length (blocksOf f s)) c))
+    verdict-on (fileRefusals f s) _ e
+    ∙ (rw (le-ltb n (length (placesOf f s)) a, le-ltb m (length (runsOf f s)) b, le-ltb k (length (blocksOf f s)) c))

@@ -16,18 +16,22 @@ part-requires c κs = search needs
 
 line-colors-requires : tie.Need-line-colors-requires
 line-colors-requires c κs =
-    let a = c .before .before .before .args in
-    (omega (arith, length-take 512 (now (a .file)), ap length (c .before .part .ensures)), search needs)
+    let a = c .before .before .before .before .args in
+    (omega (arith, length-take 512 (now (a .file)), ap length (c .before .part .ensures)), c .before .before .before .before .pre)
+
+same-length : tie.Need-same-length
+same-length c = search needs
 
 returns : tie.Need-returns
 returns c =
+    let l = c .before .before .line-colors in
     subst
     (λ (t : List ℕ).
-    Stored (slotAt (lineColors (linesOf t))) (c .line-colors .last .1 .0) (c .line-colors .result)
-    × ((c .line-colors .result ≡ length (lineColors (linesOf t)))
-    × (take (c .line-colors .result) (c .line-colors .last .1 .0) ≡ map colorNumber (lineColors (linesOf t)))))
-    (c .before .before .part .ensures)
-    (c .line-colors .ensures)
+    Stored (slotAt (lineColors (linesOf t))) (l .last .1 .0) (l .result)
+    × ((l .result ≡ length (lineColors (linesOf t)))
+    × (take (l .result) (l .last .1 .0) ≡ map colorNumber (lineColors (linesOf t)))))
+    (c .before .before .before .before .part .ensures)
+    (l .ensures)
 
 pub dst-colors-spec : {M : Type 1} → statement M
-dst-colors-spec = tie.close (tie.spec part-requires line-colors-requires returns)
+dst-colors-spec = tie.close (tie.spec part-requires line-colors-requires same-length returns)

@@ -4,7 +4,7 @@ use denote.Ref.{now}
 use lib.ListN.{drop}
 use Rattle.rules.specs.Files.{firstOf}
 use Rattle.rules.specs.declared.Format.{Format}
-use Rattle.records.proofs.Arms.{pes-pec}
+use Rattle.laws.specs.Arms.{pes-pec}
 use borrow.Author.Needs.{needs}
 use Rattle.records.proofs.record_at.Statement.{statement}
 use Rattle.records.proofs.record_at.Tie as tie

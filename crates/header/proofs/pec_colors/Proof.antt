@@ -7,8 +7,8 @@ use lib.ListN.{length, getD, length-set}
 use Rattle.rules.specs.Files.{pecColor}
 use Rattle.header.specs.Colors.{Held}
 use Rattle.header.proofs.Colors.{held-more, pec-held, pec-past}
-use Rattle.header.proofs.pec_table.Statement.{statement}
-use Rattle.header.proofs.pec_table.Tie as tie
+use Rattle.header.proofs.pec_colors.Statement.{statement}
+use Rattle.header.proofs.pec_colors.Tie as tie
 
 abbrev Inv-loop : tie.InvT-loop
 Inv-loop file start colors₀ n k₀ colors k =
@@ -77,8 +77,8 @@ returns c =
       omega (arith, c .before .before .byte-at .ensures),
     )
 
-pub pec-table-spec : {M : Type 1} → statement M
-pec-table-spec =
+pub pec-colors-spec : {M : Type 1} → statement M
+pec-colors-spec =
     tie.close
     (tie.spec
     Inv-loop

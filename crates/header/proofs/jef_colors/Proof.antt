@@ -7,8 +7,8 @@ use lib.ListN.{length, getD, length-set}
 use Rattle.rules.specs.Files.{jefColor}
 use Rattle.header.specs.Colors.{Held}
 use Rattle.header.proofs.Colors.{held-more, jef-most, jef-held, jef-past, jef-cut}
-use Rattle.header.proofs.jef_table.Statement.{statement}
-use Rattle.header.proofs.jef_table.Tie as tie
+use Rattle.header.proofs.jef_colors.Statement.{statement}
+use Rattle.header.proofs.jef_colors.Tie as tie
 
 abbrev Inv-loop : tie.InvT-loop
 Inv-loop file colors₀ n k₀ colors k =
@@ -89,8 +89,8 @@ returns-2 c =
       past = λ j l. jef-past f j (omega (arith, c .before .before .jef-count .ensures));
     }
 
-pub jef-table-spec : {M : Type 1} → statement M
-jef-table-spec =
+pub jef-colors-spec : {M : Type 1} → statement M
+jef-colors-spec =
     tie.close
     (tie.spec
     Inv-loop

@@ -1,0 +1,3 @@
+pub mod Signature
+pub mod Checked
+pub mod Labels

@@ -1,0 +1,89 @@
+-- The checks of the file's format, after that of its length. Assumes nothing.
+use mathlib.Core.Path.{sym, ap, _∙_}
+use denote.Ref.{now}
+use Rattle.rules.specs.declared.Format.{Format}
+use Rattle.front.specs.Openings.{frontOf}
+use Rattle.front.proofs.Checked.{too-long, of-pes, of-pec, of-dst, of-exp, of-jef}
+use borrow.Author.Needs.{needs}
+use Rattle.front.proofs.front.Statement.{statement}
+use Rattle.front.proofs.front.Tie as tie
+
+returns : tie.Need-returns
+returns c = let a = c .before .before .args in too-long (now (a .file)) (a .f) (c .if1 .taken)
+
+enum-told : tie.Need-enum-told
+enum-told c = search needs
+
+pes-front-requires : tie.Need-pes-front-requires
+pes-front-requires c κs = search needs
+
+enum-told-2 : tie.Need-enum-told-2
+enum-told-2 c = search needs
+
+pec-front-requires : tie.Need-pec-front-requires
+pec-front-requires c κs = search needs
+
+enum-told-3 : tie.Need-enum-told-3
+enum-told-3 c = search needs
+
+dst-front-requires : tie.Need-dst-front-requires
+dst-front-requires c κs = search needs
+
+enum-told-4 : tie.Need-enum-told-4
+enum-told-4 c = search needs
+
+enum-told-5 : tie.Need-enum-told-5
+enum-told-5 c = search needs
+
+jef-front-requires : tie.Need-jef-front-requires
+jef-front-requires c κs = search needs
+
+returns-2 : tie.Need-returns-2
+returns-2 c =
+    let d = c .before .before .before in
+    let s = now (d .before .before .args .file) in
+    c .pes-front .ensures ∙ of-pes s (d .if1 .left) ∙ ap (λ (f : Format). frontOf f s) (sym (c .before .enum-told .given .1))
+
+returns-3 : tie.Need-returns-3
+returns-3 c =
+    let d = c .before .before .before in
+    let s = now (d .before .before .args .file) in
+    c .pec-front .ensures ∙ of-pec s (d .if1 .left) ∙ ap (λ (f : Format). frontOf f s) (sym (c .before .enum-told2 .given .1))
+
+returns-4 : tie.Need-returns-4
+returns-4 c =
+    let d = c .before .before .before in
+    let s = now (d .before .before .args .file) in
+    c .dst-front .ensures ∙ of-dst s (d .if1 .left) ∙ ap (λ (f : Format). frontOf f s) (sym (c .before .enum-told3 .given .1))
+
+returns-5 : tie.Need-returns-5
+returns-5 c =
+    let d = c .before .before in
+    let s = now (d .before .before .args .file) in
+    of-exp s (d .if1 .left) ∙ ap (λ (f : Format). frontOf f s) (sym (c .enum-told4 .given .1))
+
+returns-6 : tie.Need-returns-6
+returns-6 c =
+    let d = c .before .before .before in
+    let s = now (d .before .before .args .file) in
+    c .jef-front .ensures ∙ of-jef s (d .if1 .left) ∙ ap (λ (f : Format). frontOf f s) (sym (c .before .enum-told5 .given .1))
+
+pub front-spec : {M : Type 1} → statement M
+front-spec =
+    tie.close
+    (tie.spec
+    returns
+    enum-told
+    pes-front-requires
+    enum-told-2
+    pec-front-requires
+    enum-told-3
+    dst-front-requires
+    enum-told-4
+    enum-told-5
+    jef-front-requires
+    returns-2
+    returns-3
+    returns-4
+    returns-5
+    returns-6)

@@ -1,0 +1,156 @@
+// What a file's first bytes tell: whether the file is refused, where its own part begins, and its label.
+use formats::extension_of;
+use header::Word;
+use header::dst_label;
+use header::i32le;
+use header::pec_label;
+use rules::Extension;
+use rules::Format;
+use rules::Refusal;
+ghost use mathlib.Core.Path.{_≡_};
+ghost use mathlib.Core.List.{[], _∷_};
+ghost use Rattle.rules.specs.Files.{partStart, begins, labelOf, labelTold};
+ghost use Rattle.rules.specs.Refusals.{extensionOf};
+ghost use Rattle.rules.specs.declared.Extension.the-variants.{Of};
+ghost use Rattle.front.specs.Openings.{byteOf, pecFront, pesFront, dstFront, jefFront, frontOf};
+
+// A byte, or a file that ends before it.
+pub enum Byte {
+    Value(u8),
+    Missing,
+}
+
+// Where the file's own part begins, or why the file is refused.
+pub enum Opening {
+    At(usize),
+    Not(Refusal),
+}
+
+// The byte k places after start.
+fn byte_of(file: &[u8], start: usize, k: usize) -> Byte
+    ensures { λ r. ⌜ r ≡ byteOf start k (now (file .entry)) ⌝ }
+{
+    if file.len() <= start {
+        return Byte::Missing;
+    }
+    if file.len() - start <= k {
+        return Byte::Missing;
+    }
+    Byte::Value(file[start + k])
+}
+
+// `#PES` at the front.
+fn begins_pes(file: &[u8]) -> bool
+    ensures { λ r. ⌜ r ≡ begins (0x23 ∷ 0x50 ∷ 0x45 ∷ 0x53 ∷ []) (now (file .entry)) ⌝ }
+{
+    if file.len() < 4 {
+        return false;
+    }
+    if file[0] != 0x23 {
+        return false;
+    }
+    if file[1] != 0x50 {
+        return false;
+    }
+    if file[2] != 0x45 {
+        return false;
+    }
+    file[3] == 0x53
+}
+
+// A PEC part must have its count byte.
+fn pec_front(file: &[u8], start: usize) -> Opening
+    ensures { λ r. ⌜ r ≡ pecFront start (now (file .entry)) ⌝ }
+{
+    let count = byte_of(file, start, 48);
+    let Byte::Value(_) = count else {
+        return Opening::Not(Refusal::FileTooShort);
+    };
+    Opening::At(start)
+}
+
+// A PES says where its PEC part begins.
+fn pes_front(file: &[u8]) -> Opening
+    ensures { λ r. ⌜ r ≡ pesFront (now (file .entry)) ⌝ }
+{
+    if !begins_pes(file) {
+        return Opening::Not(Refusal::NotPes);
+    }
+    let word = i32le(file, 8);
+    let Word::Number(start) = word else {
+        return Opening::Not(Refusal::FileTooShort);
+    };
+    if start < 0 {
+        return Opening::Not(Refusal::StartBelowZero);
+    }
+    pec_front(file, start as usize)
+}
+
+fn dst_front(file: &[u8]) -> Opening
+    ensures { λ r. ⌜ r ≡ dstFront (now (file .entry)) ⌝ }
+{
+    if file.len() < 512 {
+        return Opening::Not(Refusal::FileTooShort);
+    }
+    Opening::At(0)
+}
+
+fn jef_front(file: &[u8]) -> Opening
+    ensures { λ r. ⌜ r ≡ jefFront (now (file .entry)) ⌝ }
+{
+    let word = i32le(file, 0);
+    let Word::Number(_) = word else {
+        return Opening::Not(Refusal::FileTooShort);
+    };
+    Opening::At(0)
+}
+
+// Refusals 2 to 5, and where the part begins if there is none of them.
+pub fn front(f: Format, file: &[u8]) -> Opening
+    ensures { λ r. ⌜ r ≡ frontOf f (now (file .entry)) ⌝ }
+{
+    if 2097152 < file.len() {
+        return Opening::Not(Refusal::FileTooLong);
+    }
+    match f {
+        Format::Pes => pes_front(file),
+        Format::Pec => pec_front(file, 8),
+        Format::Dst => dst_front(file),
+        Format::Exp => Opening::At(0),
+        Format::Jef => jef_front(file),
+    }
+}
+
+// The label of a file whose part begins at start.
+fn label_of(f: Format, file: &[u8], start: usize) -> &[u8]
+    requires { ⌜ start ≡ partStart f (now file) ⌝ }
+    ensures { λ r. ⌜ now r ≡ labelOf f (now (file .entry)) ⌝ }
+{
+    match f {
+        Format::Pes | Format::Pec => pec_label(file, start),
+        Format::Dst => dst_label(file),
+        Format::Exp | Format::Jef => &file[..0],
+    }
+}
+
+// The label of a file of format f, empty if the file is refused.
+fn label_in(f: Format, file: &[u8]) -> &[u8]
+    ensures { λ r. ⌜ now r ≡ labelTold (Of f) (now (file .entry)) ⌝ }
+{
+    let found = front(f, file);
+    let Opening::At(start) = found else {
+        return &file[..0];
+    };
+    label_of(f, file, start)
+}
+
+// The label of a file, as a part of it: empty for EXP and JEF, and under every refusal of reading but 11.
+pub fn label<'a>(ext: &[u8], file: &'a [u8]) -> &'a [u8]
+    ensures { λ r. ⌜ now r ≡ labelTold (extensionOf (now (ext .entry))) (now (file .entry)) ⌝ }
+{
+    let named = extension_of(ext);
+    let Extension::Of(f) = named else {
+        return &file[..0];
+    };
+    label_in(f, file)
+}

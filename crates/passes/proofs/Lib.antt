@@ -1,0 +1,7 @@
+-- Lemmas that more than one proof cites.
+pub mod Parts
+pub mod Colours
+pub mod Places
+pub mod Turns
+pub mod Loops
+pub mod Bounds

@@ -1,0 +1,19 @@
+-- Small signed numbers in an i32. Assumes nothing.
+use Prim.Native.Nat.{ℕ, _+_, _<_, _^_}
+use mathlib.Core.Path.{_≡_}
+use native.Mathlib.Omega.{arith}
+use lib.IntN.{ℤ, natAbs, _+ℤ_}
+use mir.Facts.{toZ-ofZ}
+use mir.Syntax.{w32}
+use mir.Val.{SFits, toZ, ofZ}
+use Rattle.laws.specs.Ints.{fit, mag-is, abs-is, abs-add}
+
+pub fits : (z : ℤ) → natAbs z < 2 ^ 31 → SFits w32 z
+fits z h = fit w32 z (omega (arith, mag-is z, abs-is z))
+
+pub kept : (z : ℤ) → natAbs z < 2 ^ 31 → toZ w32 (ofZ w32 z) ≡ z
+kept z h = toZ-ofZ (fits z h)
+
+-- a place and the step from it
+pub reached : (a d : ℤ) → natAbs a + natAbs d < 2 ^ 31 → toZ w32 (ofZ w32 (a +ℤ d)) ≡ a +ℤ d
+reached a d h = kept (a +ℤ d) (omega (arith, abs-add a d))

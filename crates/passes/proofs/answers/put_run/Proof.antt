@@ -1,0 +1,31 @@
+-- A store where a run is open.
+use native.Mathlib.Omega.{arith}
+use mathlib.Core.Path.{ap}
+use lib.ListN.{length}
+use Rattle.rules.specs.Answers.{runOf}
+use Rattle.passes.proofs.Parts.{in-run}
+use borrow.Author.Needs.{needs}
+use Rattle.passes.proofs.answers.put_run.Statement.{statement}
+use Rattle.passes.proofs.answers.put_run.Tie as tie
+
+returns : tie.Need-returns
+unfolding runOf
+returns c = rw (c .if1 .taken)
+
+cast-at : tie.Need-cast-at
+cast-at c = search needs
+
+mul-runs : tie.Need-mul-runs
+mul-runs c = search needs
+
+slice-write-runs : tie.Need-slice-write-runs
+slice-write-runs c = omega (arith, ap length (in-run _ (c .before .if1 .left) .run))
+
+same-length : tie.Need-same-length
+same-length c = search needs
+
+returns-2 : tie.Need-returns-2
+returns-2 c = rw (in-run _ (c .before .if1 .left) .run)
+
+pub put-run-spec : {M : Type 1} → statement M
+put-run-spec = tie.close (tie.spec returns cast-at mul-runs slice-write-runs same-length returns-2)

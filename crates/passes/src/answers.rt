@@ -1,0 +1,132 @@
+// What goes into the three buffers, each cell once and in order.
+use crate::builder::Builder;
+use crate::builder::color_change;
+use crate::builder::dx_of;
+use crate::builder::dy_of;
+use crate::builder::jump;
+use crate::builder::stitch;
+use crate::builder::sum;
+use crate::colors::color_of;
+use records::plain::Step;
+use rules::Record;
+ghost use mathlib.Core.Path.{_≡_};
+ghost use mathlib.Core.List.{[], _∷_, _++_};
+ghost use Prim.Native.Nat.{_+_, _*_, _≤_, _<_};
+ghost use lib.IntN.{_+ℤ_};
+ghost use lib.ListN.{length};
+ghost use lib.Seq.{sets};
+ghost use Rattle.rules.specs.Answers.{startOf, runOf, blockOf};
+ghost use Rattle.records.specs.Fields.{dxOf, dyOf};
+ghost use Rattle.passes.specs.Builders.{Small, Reach, stitched, followed, placesBy, runsBy, blocksBy, Holds};
+ghost use Rattle.passes.specs.Colour.{colourIn};
+
+// Point i of all points.
+fn put_point(places: &mut [i32], i: u32, x: i32, y: i32)
+    requires { ⌜ 2 * i + 2 ≤ length (now places) ⌝ }
+    ensures { λ _. ⌜ now (places .exit) ≡ sets (now (places .entry)) (2 * i) (x ∷ y ∷ []) ⌝ }
+{
+    let at = 2 * (i as usize);
+    places[at] = x;
+    places[at + 1] = y;
+}
+
+// The points of a stitch to (x, y): the place it leaves too, where it opens a run.
+fn put_stitch(b: Builder, x: i32, y: i32, places: &mut [i32])
+    requires { ⌜ 2 * b .points + (length (startOf (b .run) (b .x) (b .y)) + 2) ≤ length (now places) ⌝ }
+    requires { ⌜ Small b ⌝ }
+    ensures { λ _. ⌜ now (places .exit) ≡ sets (now (places .entry)) (2 * b .points) (startOf (b .run) (b .x) (b .y) ++ x ∷ y ∷ []) ⌝ }
+{
+    if b.run == 0 {
+        put_point(places, b.points, b.x, b.y);
+        put_point(places, b.points + 1, x, y);
+        return;
+    }
+    put_point(places, b.points, x, y);
+}
+
+// The open run, if there is one.
+fn put_run(b: Builder, runs: &mut [u32])
+    requires { ⌜ b .runs + length (runOf (b .run)) ≤ length (now runs) ⌝ }
+    ensures { λ _. ⌜ now (runs .exit) ≡ sets (now (runs .entry)) (b .runs) (runOf (b .run)) ⌝ }
+{
+    if b.run == 0 {
+        return;
+    }
+    let at = b.runs as usize;
+    runs[at] = b.run;
+}
+
+// The block, if it has runs: number, colour, runs.
+fn put_block(b: Builder, colors: &[u32], blocks: &mut [u32])
+    requires { ⌜ 3 * b .blocks + length (blockOf (colourIn (now colors)) (b .block) (b .begun)) ≤ length (now blocks) ⌝ }
+    ensures { λ _. ⌜ now (blocks .exit) ≡ sets (now (blocks .entry)) (3 * b .blocks) (blockOf (colourIn (now (colors .entry))) (b .block) (b .begun)) ⌝ }
+{
+    if b.begun == 0 {
+        return;
+    }
+    let at = 3 * (b.blocks as usize);
+    blocks[at] = b.block;
+    blocks[at + 1] = color_of(colors, b.block);
+    blocks[at + 2] = b.begun;
+}
+
+// A plain stitch, and the builder after it.
+pub fn draw(b: Builder, s: Step, places: &mut [i32]) -> Builder
+    requires { ⌜ Small b ⌝ }
+    requires { ⌜ Reach b (s .dx) (s .dy) ⌝ }
+    requires { ⌜ 2 * b .points + (length (startOf (b .run) (b .x) (b .y)) + 2) ≤ length (now places) ⌝ }
+    ensures { λ q. ⌜ q ≡ stitched b (b .x +ℤ s .dx) (b .y +ℤ s .dy) ⌝ }
+    ensures { λ _. ⌜ now (places .exit) ≡ sets (now (places .entry)) (2 * b .points) (startOf (b .run) (b .x) (b .y) ++ (b .x +ℤ s .dx) ∷ (b .y +ℤ s .dy) ∷ []) ⌝ }
+{
+    let x = sum(b.x, s.dx);
+    let y = sum(b.y, s.dy);
+    put_stitch(b, x, y, places);
+    stitch(b, x, y)
+}
+
+// The run and the block that are open when nothing more comes.
+pub fn close(b: Builder, colors: &[u32], runs: &mut [u32], blocks: &mut [u32])
+    requires { ⌜ b .runs + length (runOf (b .run)) ≤ length (now runs) ⌝ }
+    requires { ⌜ 3 * b .blocks + length (blockOf (colourIn (now colors)) (b .block) (b .begun)) ≤ length (now blocks) ⌝ }
+    ensures { λ _. ⌜ now (runs .exit) ≡ sets (now (runs .entry)) (b .runs) (runOf (b .run)) ⌝ }
+    ensures { λ _. ⌜ now (blocks .exit) ≡ sets (now (blocks .entry)) (3 * b .blocks) (blockOf (colourIn (now (colors .entry))) (b .block) (b .begun)) ⌝ }
+{
+    put_run(b, runs);
+    put_block(b, colors, blocks);
+}
+
+// What a record of any kind adds to the answers, and the builder after it.
+pub fn write(
+    b: Builder,
+    r: Record,
+    colors: &[u32],
+    places: &mut [i32],
+    runs: &mut [u32],
+    blocks: &mut [u32],
+) -> Builder
+    requires { ⌜ Small b ⌝ }
+    requires { ⌜ Reach b (dxOf r) (dyOf r) ⌝ }
+    requires { ⌜ Holds (colourIn (now colors)) b r (length (now places)) (length (now runs)) (length (now blocks)) ⌝ }
+    ensures { λ q. ⌜ q ≡ followed b r (b .x +ℤ dxOf r) (b .y +ℤ dyOf r) ⌝ }
+    ensures { λ _. ⌜ now (places .exit) ≡ sets (now (places .entry)) (2 * b .points) (placesBy b r) ⌝ }
+    ensures { λ _. ⌜ now (runs .exit) ≡ sets (now (runs .entry)) (b .runs) (runsBy b r) ⌝ }
+    ensures { λ _. ⌜ now (blocks .exit) ≡ sets (now (blocks .entry)) (3 * b .blocks) (blocksBy (colourIn (now (colors .entry))) b r) ⌝ }
+{
+    let x = sum(b.x, dx_of(r));
+    let y = sum(b.y, dy_of(r));
+    match r {
+        Record::StitchBy { .. } => {
+            put_stitch(b, x, y, places);
+            stitch(b, x, y)
+        }
+        Record::JumpBy { .. } => {
+            put_run(b, runs);
+            jump(b, x, y)
+        }
+        Record::ChangeBy { .. } => {
+            close(b, colors, runs, blocks);
+            color_change(b, x, y)
+        }
+        Record::Finish => b,
+    }
+}

@@ -1,0 +1,186 @@
+// The builder, by value, and what each record makes of it.
+use rules::Counts;
+use rules::Record;
+ghost use mathlib.Core.Path.{_≡_};
+ghost use Prim.Native.Nat.{_+_, _^_, _<_, _≤_};
+ghost use lib.IntN.{natAbs, _+ℤ_};
+ghost use Rattle.records.specs.Fields.{lenOf, dxOf, dyOf};
+ghost use Rattle.passes.specs.Builders.{Small, Counted, origin, stitched, jumped, changed, followed, finished, some, placeAfter};
+
+// The place; the points of the open run, 0 where none is open; the number of the block and the runs begun in it; and all points,
+// ended runs and listed blocks so far.
+pub struct Builder {
+    pub x: i32,
+    pub y: i32,
+    pub run: u32,
+    pub block: u32,
+    pub begun: u32,
+    pub points: u32,
+    pub runs: u32,
+    pub blocks: u32,
+}
+
+pub fn new() -> Builder
+    ensures { λ r. ⌜ r ≡ origin ⌝ }
+{
+    Builder {
+        x: 0,
+        y: 0,
+        run: 0,
+        block: 0,
+        begun: 0,
+        points: 0,
+        runs: 0,
+        blocks: 0,
+    }
+}
+
+// Neither place nor step is large enough to pass an i32.
+pub fn sum(a: i32, b: i32) -> i32
+    requires { ⌜ natAbs a + natAbs b < 2 ^ 31 ⌝ }
+    ensures { λ r. ⌜ r ≡ a +ℤ b ⌝ }
+{
+    a + b
+}
+
+// A stitch to (x, y); with no run open it opens one, of two points.
+pub fn stitch(b: Builder, x: i32, y: i32) -> Builder
+    requires { ⌜ Small b ⌝ }
+    ensures { λ r. ⌜ r ≡ stitched b x y ⌝ }
+{
+    if b.run == 0 {
+        return Builder {
+            x,
+            y,
+            run: 2,
+            block: b.block,
+            begun: b.begun + 1,
+            points: b.points + 2,
+            runs: b.runs,
+            blocks: b.blocks,
+        };
+    }
+    Builder {
+        x,
+        y,
+        run: b.run + 1,
+        block: b.block,
+        begun: b.begun,
+        points: b.points + 1,
+        runs: b.runs,
+        blocks: b.blocks,
+    }
+}
+
+// 1 for a run that is open, or a block with runs.
+fn one_if(n: u32) -> u32
+    ensures { λ r. ⌜ r ≡ some n ⌝ }
+{
+    if n == 0 {
+        return 0;
+    }
+    1
+}
+
+// A jump to (x, y) ends the run.
+pub fn jump(b: Builder, x: i32, y: i32) -> Builder
+    requires { ⌜ Small b ⌝ }
+    ensures { λ r. ⌜ r ≡ jumped b x y ⌝ }
+{
+    Builder {
+        x,
+        y,
+        run: 0,
+        block: b.block,
+        begun: b.begun,
+        points: b.points,
+        runs: b.runs + one_if(b.run),
+        blocks: b.blocks,
+    }
+}
+
+// A colour change ends run and block; then it moves to (x, y).
+pub fn color_change(b: Builder, x: i32, y: i32) -> Builder
+    requires { ⌜ Small b ⌝ }
+    ensures { λ r. ⌜ r ≡ changed b x y ⌝ }
+{
+    Builder {
+        x,
+        y,
+        run: 0,
+        block: b.block + 1,
+        begun: 0,
+        points: b.points,
+        runs: b.runs + one_if(b.run),
+        blocks: b.blocks + one_if(b.begun),
+    }
+}
+
+// What a record makes of the builder, where it reaches (x, y). The end leaves it as it is.
+pub fn follow(b: Builder, r: Record, x: i32, y: i32) -> Builder
+    requires { ⌜ Small b ⌝ }
+    ensures { λ q. ⌜ q ≡ followed b r x y ⌝ }
+{
+    match r {
+        Record::StitchBy { .. } => stitch(b, x, y),
+        Record::JumpBy { .. } => jump(b, x, y),
+        Record::ChangeBy { .. } => color_change(b, x, y),
+        Record::Finish => b,
+    }
+}
+
+// Nothing more comes: the open run and its block end.
+pub fn finish(b: Builder) -> Builder
+    requires { ⌜ Small b ⌝ }
+    ensures { λ r. ⌜ r ≡ finished b ⌝ }
+{
+    color_change(b, b.x, b.y)
+}
+
+// What a finished builder has counted.
+pub fn counts(b: Builder) -> Counts
+    requires { ⌜ b .blocks ≤ b .runs ⌝ }
+    ensures { λ r. ⌜ Counted b r ⌝ }
+{
+    Counts {
+        points: b.points,
+        runs: b.runs,
+        blocks: b.blocks,
+        cuts: b.runs - b.blocks,
+    }
+}
+
+// Where the next record stands; at the end of the n bytes once the reading has ended.
+pub fn place_after(r: Record, at: usize, n: usize) -> usize
+    requires { ⌜ at + lenOf r < 2 ^ 64 ⌝ }
+    ensures { λ q. ⌜ q ≡ placeAfter r at n ⌝ }
+{
+    match r {
+        Record::StitchBy { len, .. } => at + len,
+        Record::JumpBy { len, .. } => at + len,
+        Record::ChangeBy { len, .. } => at + len,
+        Record::Finish => n,
+    }
+}
+
+pub fn dx_of(r: Record) -> i32
+    ensures { λ z. ⌜ z ≡ dxOf r ⌝ }
+{
+    match r {
+        Record::StitchBy { dx, .. } => dx,
+        Record::JumpBy { dx, .. } => dx,
+        Record::ChangeBy { dx, .. } => dx,
+        Record::Finish => 0,
+    }
+}
+
+pub fn dy_of(r: Record) -> i32
+    ensures { λ z. ⌜ z ≡ dyOf r ⌝ }
+{
+    match r {
+        Record::StitchBy { dy, .. } => dy,
+        Record::JumpBy { dy, .. } => dy,
+        Record::ChangeBy { dy, .. } => dy,
+        Record::Finish => 0,
+    }
+}

@@ -1,0 +1,96 @@
+// The three answers of a read: one pass over the records counts their cells, one writes them.
+pub mod answers;
+pub mod builder;
+pub mod colors;
+
+use crate::answers::close;
+use crate::answers::draw;
+use crate::answers::write;
+use crate::builder::counts;
+use crate::builder::finish;
+use crate::builder::follow;
+use crate::builder::new;
+use crate::builder::place_after;
+use crate::builder::stitch;
+use records::plain::plain_len;
+use records::plain::plain_step;
+use records::record_at;
+use rules::Counts;
+use rules::Format;
+ghost use mathlib.Core.Bool.{true};
+ghost use mathlib.Core.Path.{_≡_};
+ghost use Prim.Native.Nat.{_≤_};
+ghost use lib.ListN.{length};
+ghost use Rattle.rules.specs.Files.{firstOf, filled};
+ghost use Rattle.rules.specs.declared.Verdict.the-variants.{Accepted};
+ghost use Rattle.passes.specs.Colour.{colourIn};
+ghost use Rattle.passes.specs.Told.{placesIn, runsIn, blocksIn, Told, Fits, Ample};
+
+// How much the answers hold. No place is kept: the builder stays at (0, 0).
+pub fn count(f: Format, bytes: &[u8]) -> Counts
+    requires { ⌜ length (now bytes) ≤ 2097152 ⌝ }
+    ensures { λ r. ⌜ Told (firstOf f) (now (bytes .entry)) r ⌝ }
+{
+    let mut b = new();
+    let mut at: usize = 0;
+    while at < bytes.len() {
+        let n = plain_len(f, bytes, at);
+        if n != 0 {
+            b = stitch(b, 0, 0);
+            at = at + n;
+            continue;
+        }
+        let r = record_at(f, bytes, at);
+        b = follow(b, r, 0, 0);
+        at = place_after(r, at, bytes.len());
+    }
+    counts(finish(b))
+}
+
+// Writes the answers to the front of the buffers.
+pub fn fill(
+    f: Format,
+    bytes: &[u8],
+    colors: &[u32],
+    places: &mut [i32],
+    runs: &mut [u32],
+    blocks: &mut [u32],
+) -> Counts
+    requires { ⌜ length (now bytes) ≤ 2097152 ⌝ }
+    requires { ⌜ Fits (colourIn (now colors)) (firstOf f) (now bytes) (length (now places)) (length (now runs)) (length (now blocks)) ⌝ }
+    ensures { λ r. ⌜ Told (firstOf f) (now (bytes .entry)) r ⌝ }
+    ensures { λ _. ⌜ now (places .exit) ≡ filled Accepted (placesIn (firstOf f) (now (bytes .entry))) (now (places .entry)) ⌝ }
+    ensures { λ _. ⌜ now (runs .exit) ≡ filled Accepted (runsIn (firstOf f) (now (bytes .entry))) (now (runs .entry)) ⌝ }
+    ensures { λ _. ⌜ now (blocks .exit) ≡ filled Accepted (blocksIn (colourIn (now (colors .entry))) (firstOf f) (now (bytes .entry))) (now (blocks .entry)) ⌝ }
+{
+    let mut b = new();
+    let mut at: usize = 0;
+    while at < bytes.len() {
+        let n = plain_len(f, bytes, at);
+        if n != 0 {
+            let s = plain_step(f, bytes, at);
+            b = draw(b, s, places);
+            at = at + n;
+            continue;
+        }
+        let r = record_at(f, bytes, at);
+        b = write(b, r, colors, places, runs, blocks);
+        at = place_after(r, at, bytes.len());
+    }
+    close(b, colors, runs, blocks);
+    counts(finish(b))
+}
+
+// Whether buffers of these lengths hold the answers of any n bytes, so that nothing need be counted first.
+pub fn ample(n: usize, places: usize, runs: usize, blocks: usize) -> bool
+    requires { ⌜ n ≤ 2097152 ⌝ }
+    ensures { λ r. ⌜ (r ≡ true → Ample n places runs blocks) ⌝ }
+{
+    if places < n + 2 {
+        return false;
+    }
+    if runs < n / 2 {
+        return false;
+    }
+    3 * n / 2 <= blocks
+}

@@ -1,0 +1,52 @@
+-- Stored colours as the blocks take them. Assumes nothing.
+use Prim.Native.Nat.{ℕ, zero, suc, _≤_}
+use mathlib.Core.Path.{_≡_, refl, ap, _∙_}
+use mathlib.Core.List.{List, [], _∷_, _++_}
+use native.Mathlib.Decide.{decLt}
+use native.Mathlib.Omega.{arith}
+use lib.IntN.{ℤ}
+use lib.ListN.{length, take, getD, List·getD-eq-default}
+use lib.Seq.{getD-take, length-take-le}
+use Rattle.rules.specs.Answers.{blocks, blockOf, pointsAfter, begunAfter}
+use Rattle.rules.specs.Files.{firstOf, orDefault}
+use Rattle.rules.specs.Records.{Event, stitch, jump, change, events}
+use Rattle.rules.specs.declared.Format.{Format}
+use Rattle.rules.specs.declared.ReadAnswer.{ReadAnswer}
+use Rattle.rules.specs.declared.Slot.{Slot}
+use Rattle.rules.specs.declared.Slot.the-variants.{Empty, Thread}
+use Rattle.header.specs.Colors.{Held, Stored}
+use Rattle.passes.proofs.Colours.{cell}
+use Rattle.passes.specs.Colour.{colourIn}
+use Rattle.read.specs.Answered.{Answered}
+
+-- blocks ask for colours by number only
+module _ (c d : ℕ → ℕ) (e : (k : ℕ) → c k ≡ d k) where
+  block-same : (k m : ℕ) → blockOf c k m ≡ blockOf d k m
+  unfolding blockOf
+  block-same k zero = refl
+  block-same k (suc m) = rw (e k)
+
+  pub blocks-same : (k m n : ℕ) (es : List Event) → blocks c k m n es ≡ blocks d k m n es
+  unfolding blocks
+  blocks-same k m n [] = block-same k m
+  blocks-same k m n (stitch dx dy ∷ es) = blocks-same k (begunAfter n m) (pointsAfter n) es
+  blocks-same k m n (jump dx dy ∷ es) = blocks-same k m 0 es
+  blocks-same k m n (change dx dy ∷ es) = rw (block-same k m, blocks-same (suc k) 0 0 es)
+
+held : (s : Slot) (n k : ℕ) → Held s n → n ≡ orDefault s k
+unfolding orDefault
+held Empty n k h = absurd h
+held (Thread c) n k h = h
+
+-- the first r cells, and then the defaults
+pub stored-colour : (f : ℕ → Slot) (cells : List ℕ) (r : ℕ) → Stored f cells r → r ≤ length cells → (k : ℕ) → colourIn (take r cells) k ≡ orDefault (f k) k
+unfolding colourIn
+stored-colour f cells r s h k = elim (decLt k r) [
+  | yes l ↦ getD-take r cells k (orDefault Empty k) l ∙ cell cells k (orDefault Empty k) 0 (omega arith) ∙ held (f k) (getD cells k 0) k (s .here k l)
+  | no l ↦ List·getD-eq-default (take r cells) (orDefault Empty k) (omega (arith, length-take-le r cells h)) ∙ rw (s .past k (omega arith))
+]
+
+-- the same answers by other names of the colours and the bytes
+pub answered-as : (f : Format) {c d : ℕ → ℕ} {bytes t : List ℕ} {P P′ : List ℤ} {R R′ B B′ : List ℕ} {r : ReadAnswer} → ((k : ℕ) → c k ≡ d k) → bytes ≡ t
+    → Answered c f bytes P P′ R R′ B B′ r → Answered d f t P P′ R R′ B B′ r
+answered-as f {c} {d} {bytes} e eb g = rw (← eb, ← blocks-same c d e 0 0 0 (events (firstOf f) bytes)) g

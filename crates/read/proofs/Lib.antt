@@ -1,0 +1,5 @@
+-- Lemmas that more than one proof cites.
+pub mod Rooms
+pub mod Colours
+pub mod Openings
+pub mod Stitches

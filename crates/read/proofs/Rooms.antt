@@ -1,0 +1,72 @@
+-- Refusal 11 by the counts, and what a call gives back with and without it. Assumes nothing.
+use Prim.Native.Nat.{ℕ, _+_, _*_, _≤_}
+use mathlib.Core.Path.{_≡_, sym}
+use mathlib.Core.Bool.{true, false, _&&_}
+use mathlib.Core.List.{List}
+use native.Mathlib.Omega.{arith}
+use borrow.Author.Tests.{le-ltb, lt-ltb, leb-true, leb-false}
+use lib.Dec.{ltb, leb}
+use lib.IntN.{ℤ}
+use lib.ListN.{length}
+use Rattle.rules.specs.Answers.{pointTotal, blockTotal, cuts}
+use Rattle.rules.specs.Files.{firstOf, countsOf, readAnswer, filled}
+use Rattle.rules.specs.Refusals.{verdict}
+use Rattle.rules.specs.declared.Counts.{Counts}
+use Rattle.rules.specs.declared.Format.{Format}
+use Rattle.rules.specs.declared.ReadAnswer.the-variants.{Read, Unread}
+use Rattle.rules.specs.declared.Record.{Record}
+use Rattle.rules.specs.declared.Refusal.the-variants.{BufferTooShort}
+use Rattle.rules.specs.declared.Verdict.the-variants.{Accepted, Refused}
+use Rattle.laws.specs.Tests.{by-test, false-true, and-left, and-right}
+use Rattle.passes.specs.Told.{placesIn, runsIn, blocksIn, Told, Fits}
+use Rattle.read.specs.Answered.{roomFor, roomVerdict, Given}
+
+-- refusal 11 does not hold
+room : (ps : List ℤ) (rs bs : List ℕ) (np nr nb : ℕ) → length ps ≤ np → length rs ≤ nr → length bs ≤ nb → roomVerdict ps rs bs np nr nb ≡ Accepted
+unfolding roomVerdict verdict
+room ps rs bs np nr nb hp hr hb = rw (le-ltb np (length ps) hp, le-ltb nr (length rs) hr, le-ltb nb (length bs) hb)
+
+same-counts : (k : Counts) (p r b c : ℕ) → k .points ≡ p → k .runs ≡ r → k .blocks ≡ b → k .cuts ≡ c → k ≡ record { points = p; runs = r; blocks = b; cuts = c }
+same-counts k p r b c ep er eb ec = rw (← ep, ← er, ← eb, ← ec)
+
+-- k is told of the answers
+module _ {first : List ℕ → Record} {bytes : List ℕ} {k : Counts} (c : ℕ → ℕ) (t : Told first bytes k) where
+  counts-told : k ≡ countsOf (placesIn first bytes) (runsIn first bytes) (blocksIn c first bytes)
+  unfolding countsOf pointTotal blockTotal cuts
+  counts-told = same-counts k _ _ _ _ (omega (arith, t .points)) (omega (arith, t .runs)) (omega (arith, t .blocks c)) (omega (arith, t, t .blocks c))
+
+  module _ (np nr nb : ℕ) where
+    pub fits-told : roomFor k np nr nb ≡ true → Fits c first bytes np nr nb
+    unfolding roomFor
+    fits-told e =
+        let more = and-right (leb (2 * k .points) np) (leb (k .runs) nr && leb (3 * k .blocks) nb) e in
+        record {
+          places = omega (arith, t .points, leb-true (2 * k .points) np (and-left _ _ e));
+          runs = omega (arith, t .runs, leb-true (k .runs) nr (and-left _ _ more));
+          blocks = omega (arith, t .blocks c, leb-true (3 * k .blocks) nb (and-right (leb (k .runs) nr) _ more));
+        }
+
+    no-room : roomFor k np nr nb ≡ false → roomVerdict (placesIn first bytes) (runsIn first bytes) (blocksIn c first bytes) np nr nb ≡ Refused BufferTooShort
+    unfolding roomFor roomVerdict verdict
+    no-room e =
+        rw (t .points, t .runs, t .blocks c)
+        (by-test (leb (2 * k .points) np)
+        (λ p. by-test (leb (k .runs) nr)
+        (λ q. by-test (leb (3 * k .blocks) nb)
+        (λ s. false-true (sym (rw (p, q, s) at e)))
+        (λ s. rw (le-ltb np (2 * k .points) (leb-true _ _ p), le-ltb nr (k .runs) (leb-true _ _ q), lt-ltb nb (3 * k .blocks) (leb-false _ _ s))))
+        (λ q. rw (le-ltb np (2 * k .points) (leb-true _ _ p), lt-ltb nr (k .runs) (leb-false _ _ q))))
+        (λ p. rw (lt-ltb np (2 * k .points) (leb-false _ _ p))))
+
+  module _ {P P′ : List ℤ} {R R′ B B′ : List ℕ} where
+    pub given-read : Fits c first bytes (length P) (length R) (length B) → P′ ≡ filled Accepted (placesIn first bytes) P → R′ ≡ filled Accepted (runsIn first bytes) R
+        → B′ ≡ filled Accepted (blocksIn c first bytes) B → Given (placesIn first bytes) P P′ (runsIn first bytes) R R′ (blocksIn c first bytes) B B′ (Read k)
+    unfolding readAnswer
+    given-read h eP eR eB =
+        let v = room (placesIn first bytes) (runsIn first bytes) (blocksIn c first bytes) (length P) (length R) (length B) (h .places) (h .runs) (h .blocks) in
+        record { told = rw (v, ← counts-told); places = rw (v, eP); runs = rw (v, eR); blocks = rw (v, eB) }
+
+  pub given-unread : {P : List ℤ} {R B : List ℕ} → roomFor k (length P) (length R) (length B) ≡ false
+      → Given (placesIn first bytes) P P (runsIn first bytes) R R (blocksIn c first bytes) B B (Unread BufferTooShort)
+  unfolding readAnswer filled
+  given-unread {P} {R} {B} e = let v = no-room (length P) (length R) (length B) e in record { told = rw v; places = rw v; runs = rw v; blocks = rw v }

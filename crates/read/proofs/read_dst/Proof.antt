@@ -1,0 +1,62 @@
+-- The colours of the header, and the records behind it.
+use mathlib.Core.Path.{sym}
+use native.Mathlib.Omega.{arith}
+use denote.Ref.{now}
+use lib.ListN.{take, length-drop}
+use lib.Seq.{length-take-le}
+use Rattle.read.proofs.Colours.{stored-colour, answered-as}
+use Rattle.rules.specs.Files.{linesOf, lineColors, slotAt, colourOf, stored, stitchBytes}
+use Rattle.rules.specs.declared.Format.the-variants.{Dst}
+use borrow.Author.Needs.{needs}
+use Rattle.read.proofs.read_dst.Statement.{statement}
+use Rattle.read.proofs.read_dst.Tie as tie
+
+slice-aggregate-dst-colors : tie.Need-slice-aggregate-dst-colors
+slice-aggregate-dst-colors c = search needs
+
+dst-colors-requires : tie.Need-dst-colors-requires
+dst-colors-requires c κs = search needs
+
+rest-requires : tie.Need-rest-requires
+rest-requires c κs = search needs
+
+array-share-prefix-colors : tie.Need-array-share-prefix-colors
+array-share-prefix-colors c = omega (arith, c .before .before .dst-colors .ensures .0 .room, c .before .before .dst-colors .kept .1 .0)
+
+slice-aggregate-read-records : tie.Need-slice-aggregate-read-records
+slice-aggregate-read-records c = sym (length-take-le (c .before .before .before .dst-colors .result) (c .before .before .before .dst-colors .last .1 .0) (omega (arith, c .before .before .before .dst-colors .ensures .0 .room, c .before .before .before .dst-colors .kept .1 .0)))
+
+read-records-requires : tie.Need-read-records-requires
+read-records-requires c κs = rw (c .before .before .before .before .rest .ensures) (omega (arith, length-drop 512 (now (c .before .before .before .before .before .before .before .before .before .before .before .args .file)), c .before .before .before .before .before .before .before .before .before .before .before .pre))
+
+same-length : tie.Need-same-length
+same-length c = search needs
+
+same-length-2 : tie.Need-same-length-2
+same-length-2 c = search needs
+
+same-length-3 : tie.Need-same-length-3
+same-length-3 c = search needs
+
+returns : tie.Need-returns
+unfolding colourOf stored stitchBytes
+returns c =
+    let a = c .before .before .before .before .before .before .before .before .before .before .before .before .before .before .before .before .before .args in
+    let s = now (a .file) in
+    let p = c .before .before .before .before .before .before .before .before .before .before .before .before .dst-colors in
+    answered-as Dst (stored-colour (slotAt (lineColors (linesOf (take 512 s)))) _ _ (p .ensures .0) (omega (arith, p .ensures .0 .room, p .kept .1 .0))) (c .before .before .before .before .before .before .before .before .before .before .rest .ensures) (c .before .before .before .before .before .read-records .ensures)
+
+pub read-dst-spec : {M : Type 1} → statement M
+read-dst-spec =
+    tie.close
+    (tie.spec
+    slice-aggregate-dst-colors
+    dst-colors-requires
+    rest-requires
+    array-share-prefix-colors
+    slice-aggregate-read-records
+    read-records-requires
+    same-length
+    same-length-2
+    same-length-3
+    returns)

@@ -1,0 +1,59 @@
+-- The opening decides, and then the records.
+use mathlib.Core.Path.{sym, _∙_}
+use denote.Ref.{now}
+use lib.ListN.{length}
+use Rattle.rules.specs.Files.{readAnswer, filled}
+use Rattle.read.proofs.Openings.{opened, refused-read, file-given, read-told, read-places, read-runs, read-blocks}
+use borrow.Author.Needs.{needs}
+use Rattle.read.proofs.read_stitch_file.Statement.{statement}
+use Rattle.read.proofs.read_stitch_file.Tie as tie
+
+front-requires : tie.Need-front-requires
+front-requires c κs = search needs
+
+enum-known-found : tie.Need-enum-known-found
+enum-known-found c = search needs
+
+read-part-requires : tie.Need-read-part-requires
+read-part-requires c κs = let a = c .before .before .before .before .before .before .before .before .before .before .args in opened (a .f) (now (a .file)) (sym (c .before .before .before .before .before .before .front .ensures) ∙ c .before .before .before .before .found .given .1)
+
+enum-known-found-2 : tie.Need-enum-known-found-2
+enum-known-found-2 c = search needs
+
+same-length : tie.Need-same-length
+same-length c = search needs
+
+same-length-2 : tie.Need-same-length-2
+same-length-2 c = search needs
+
+same-length-3 : tie.Need-same-length-3
+same-length-3 c = search needs
+
+returns : tie.Need-returns
+returns c =
+    let a = c .before .before .before .before .before .before .before .before .before .before .before .before .before .before .before .before .args in
+    let s = now (a .file) in
+    let o = opened (a .f) s (sym (c .before .before .before .before .before .before .before .before .before .before .before .before .front .ensures) ∙ c .before .before .before .before .before .before .before .before .before .before .found .given .1) in
+    let g = file-given (a .f) s (c .before .before .before .before .before .read-part .ensures) in
+    (read-told (a .f) s o g, (read-places (a .f) s o g, (read-runs (a .f) s o g, read-blocks (a .f) s o g)))
+
+returns-2 : tie.Need-returns-2
+unfolding readAnswer filled
+returns-2 c =
+    let a = c .before .before .before .before .before .before .before .args in
+    let v = refused-read (a .f) (now (a .file)) (sym (c .before .before .before .front .ensures) ∙ c .before .found2 .given .1) (length (now (a .places))) (length (now (a .runs))) (length (now (a .blocks))) in
+    (rw v, (rw v, (rw v, rw v)))
+
+pub read-stitch-file-spec : {M : Type 1} → statement M
+read-stitch-file-spec =
+    tie.close
+    (tie.spec
+    front-requires
+    enum-known-found
+    read-part-requires
+    enum-known-found-2
+    same-length
+    same-length-2
+    same-length-3
+    returns
+    returns-2)

@@ -1,0 +1,211 @@
+// Reading: a file of any of the five formats, into three lent buffers.
+use formats::extension_of;
+use front::Opening;
+use front::front;
+use header::Word;
+use header::dst_colors;
+use header::i32le;
+use header::jef_colors;
+use header::part;
+use header::pec_colors;
+use passes::ample;
+use passes::count;
+use passes::fill;
+use rules::Counts;
+use rules::Extension;
+use rules::Format;
+use rules::ReadAnswer;
+use rules::Refusal;
+ghost use mathlib.Core.Path.{_≡_};
+ghost use mathlib.Core.Bool.{false};
+ghost use mathlib.Core.List.{_++_};
+ghost use Prim.Native.Nat.{_+_, _≤_, _<_};
+ghost use lib.ListN.{length, drop};
+ghost use Rattle.rules.specs.Files.{partStart, stitchBytes, pecColor, orDefault, colourOf, placesOf, runsOf, blocksOf, placesTold, runsTold, blocksTold, countsOf, tooShort, readVerdict, readAnswer, filled};
+ghost use Rattle.rules.specs.Refusals.{extensionOf};
+ghost use Rattle.rules.specs.declared.Extension.the-variants.{Of};
+ghost use Rattle.rules.specs.declared.Format.the-variants.{Pec, Dst, Exp, Jef};
+ghost use Rattle.passes.specs.Colour.{colourIn};
+ghost use Rattle.passes.specs.Told.{Told, Fits};
+ghost use Rattle.read.specs.Answered.{Answered, Opened, roomFor};
+
+// Whether the answers fit: refusal 11 if not.
+fn has_room(c: Counts, places: usize, runs: usize, blocks: usize) -> bool
+    ensures { λ r. ⌜ r ≡ roomFor c places runs blocks ⌝ }
+{
+    if places < 2 * (c.points as usize) {
+        return false;
+    }
+    if runs < (c.runs as usize) {
+        return false;
+    }
+    3 * (c.blocks as usize) <= blocks
+}
+
+// The answers of the records in bytes. They are counted first, unless the buffers are ample.
+fn read_records(
+    f: Format,
+    bytes: &[u8],
+    colors: &[u32],
+    places: &mut [i32],
+    runs: &mut [u32],
+    blocks: &mut [u32],
+) -> ReadAnswer
+    requires { ⌜ length (now bytes) ≤ 2097152 ⌝ }
+    ensures { λ r. ⌜ Answered (colourIn (now (colors .entry))) f (now (bytes .entry)) (now (places .entry)) (now (places .exit)) (now (runs .entry)) (now (runs .exit)) (now (blocks .entry)) (now (blocks .exit)) r ⌝ }
+{
+    if ample(bytes.len(), places.len(), runs.len(), blocks.len()) {
+        return ReadAnswer::Read(fill(f, bytes, colors, places, runs, blocks));
+    }
+    let c = count(f, bytes);
+    if has_room(c, places.len(), runs.len(), blocks.len()) {
+        return ReadAnswer::Read(fill(f, bytes, colors, places, runs, blocks));
+    }
+    ReadAnswer::Unread(Refusal::BufferTooShort)
+}
+
+// The bytes from a place on.
+fn rest(file: &[u8], from: usize) -> &[u8]
+    ensures { λ r. ⌜ now r ≡ drop from (now (file .entry)) ⌝ }
+{
+    part(file, from, file.len())
+}
+
+// A PEC part that begins at start.
+fn read_pec(
+    file: &[u8],
+    start: usize,
+    places: &mut [i32],
+    runs: &mut [u32],
+    blocks: &mut [u32],
+) -> ReadAnswer
+    requires { ⌜ (length (now file) ≤ 2097152) × (start < length (now file)) ⌝ }
+    ensures { λ r. ⌜ Answered (λ k. orDefault (pecColor start (now (file .entry)) k) k) Pec (drop (start + 528) (now (file .entry))) (now (places .entry)) (now (places .exit)) (now (runs .entry)) (now (runs .exit)) (now (blocks .entry)) (now (blocks .exit)) r ⌝ }
+{
+    let mut colors = [0u32; 256];
+    let n = pec_colors(file, start, &mut colors);
+    read_records(
+        Format::Pec,
+        rest(file, start + 528),
+        &colors[..n],
+        places,
+        runs,
+        blocks,
+    )
+}
+
+fn read_dst(file: &[u8], places: &mut [i32], runs: &mut [u32], blocks: &mut [u32]) -> ReadAnswer
+    requires { ⌜ length (now file) ≤ 2097152 ⌝ }
+    ensures { λ r. ⌜ Answered (colourOf Dst (now (file .entry))) Dst (stitchBytes Dst (now (file .entry))) (now (places .entry)) (now (places .exit)) (now (runs .entry)) (now (runs .exit)) (now (blocks .entry)) (now (blocks .exit)) r ⌝ }
+{
+    let mut colors = [0u32; 256];
+    let n = dst_colors(file, &mut colors);
+    read_records(
+        Format::Dst,
+        rest(file, 512),
+        &colors[..n],
+        places,
+        runs,
+        blocks,
+    )
+}
+
+// EXP stores no colours.
+fn read_exp(file: &[u8], places: &mut [i32], runs: &mut [u32], blocks: &mut [u32]) -> ReadAnswer
+    requires { ⌜ length (now file) ≤ 2097152 ⌝ }
+    ensures { λ r. ⌜ Answered (colourOf Exp (now (file .entry))) Exp (stitchBytes Exp (now (file .entry))) (now (places .entry)) (now (places .exit)) (now (runs .entry)) (now (runs .exit)) (now (blocks .entry)) (now (blocks .exit)) r ⌝ }
+{
+    let none = [0u32; 1];
+    read_records(Format::Exp, file, &none[..0], places, runs, blocks)
+}
+
+// The stitches of a JEF file: from its offset on, none if that is below zero.
+fn jef_stitches(file: &[u8]) -> &[u8]
+    requires { ⌜ 4 ≤ length (now file) ⌝ }
+    ensures { λ r. ⌜ now r ≡ stitchBytes Jef (now (file .entry)) ⌝ }
+{
+    let word = i32le(file, 0);
+    let Word::Number(offset) = word else {
+        return &file[..0];
+    };
+    if offset < 0 {
+        return &file[..0];
+    }
+    rest(file, offset as usize)
+}
+
+fn read_jef(file: &[u8], places: &mut [i32], runs: &mut [u32], blocks: &mut [u32]) -> ReadAnswer
+    requires { ⌜ (length (now file) ≤ 2097152) × (4 ≤ length (now file)) ⌝ }
+    ensures { λ r. ⌜ Answered (colourOf Jef (now (file .entry))) Jef (stitchBytes Jef (now (file .entry))) (now (places .entry)) (now (places .exit)) (now (runs .entry)) (now (runs .exit)) (now (blocks .entry)) (now (blocks .exit)) r ⌝ }
+{
+    let mut colors = [0u32; 256];
+    let n = jef_colors(file, &mut colors);
+    read_records(
+        Format::Jef,
+        jef_stitches(file),
+        &colors[..n],
+        places,
+        runs,
+        blocks,
+    )
+}
+
+// A file that is not refused, its part beginning at start.
+fn read_part(
+    f: Format,
+    file: &[u8],
+    start: usize,
+    places: &mut [i32],
+    runs: &mut [u32],
+    blocks: &mut [u32],
+) -> ReadAnswer
+    requires { ⌜ Opened f (now file) start ⌝ }
+    ensures { λ r. ⌜ Answered (colourOf f (now (file .entry))) f (stitchBytes f (now (file .entry))) (now (places .entry)) (now (places .exit)) (now (runs .entry)) (now (runs .exit)) (now (blocks .entry)) (now (blocks .exit)) r ⌝ }
+{
+    match f {
+        Format::Pes | Format::Pec => read_pec(file, start, places, runs, blocks),
+        Format::Dst => read_dst(file, places, runs, blocks),
+        Format::Exp => read_exp(file, places, runs, blocks),
+        Format::Jef => read_jef(file, places, runs, blocks),
+    }
+}
+
+// A file of format f.
+pub fn read_stitch_file(
+    f: Format,
+    file: &[u8],
+    places: &mut [i32],
+    runs: &mut [u32],
+    blocks: &mut [u32],
+) -> ReadAnswer
+    ensures { λ r. ⌜ r ≡ readAnswer (readVerdict (Of f) (now (file .entry)) (length (now (places .entry))) (length (now (runs .entry))) (length (now (blocks .entry)))) (countsOf (placesOf f (now (file .entry))) (runsOf f (now (file .entry))) (blocksOf f (now (file .entry)))) ⌝ }
+    ensures { λ r. ⌜ now (places .exit) ≡ filled (readVerdict (Of f) (now (file .entry)) (length (now (places .entry))) (length (now (runs .entry))) (length (now (blocks .entry)))) (placesOf f (now (file .entry))) (now (places .entry)) ⌝ }
+    ensures { λ r. ⌜ now (runs .exit) ≡ filled (readVerdict (Of f) (now (file .entry)) (length (now (places .entry))) (length (now (runs .entry))) (length (now (blocks .entry)))) (runsOf f (now (file .entry))) (now (runs .entry)) ⌝ }
+    ensures { λ r. ⌜ now (blocks .exit) ≡ filled (readVerdict (Of f) (now (file .entry)) (length (now (places .entry))) (length (now (runs .entry))) (length (now (blocks .entry)))) (blocksOf f (now (file .entry))) (now (blocks .entry)) ⌝ }
+{
+    let found = front(f, file);
+    match found {
+        Opening::At(start) => read_part(f, file, start, places, runs, blocks),
+        Opening::Not(why) => ReadAnswer::Unread(why),
+    }
+}
+
+// Reads a file: points, runs and blocks into the buffers, and their counts; or why it is refused, and the buffers as they were.
+pub fn read(
+    ext: &[u8],
+    file: &[u8],
+    places: &mut [i32],
+    runs: &mut [u32],
+    blocks: &mut [u32],
+) -> ReadAnswer
+    ensures { λ r. ⌜ r ≡ readAnswer (readVerdict (extensionOf (now (ext .entry))) (now (file .entry)) (length (now (places .entry))) (length (now (runs .entry))) (length (now (blocks .entry)))) (countsOf (placesTold (extensionOf (now (ext .entry))) (now (file .entry))) (runsTold (extensionOf (now (ext .entry))) (now (file .entry))) (blocksTold (extensionOf (now (ext .entry))) (now (file .entry)))) ⌝ }
+    ensures { λ r. ⌜ now (places .exit) ≡ filled (readVerdict (extensionOf (now (ext .entry))) (now (file .entry)) (length (now (places .entry))) (length (now (runs .entry))) (length (now (blocks .entry)))) (placesTold (extensionOf (now (ext .entry))) (now (file .entry))) (now (places .entry)) ⌝ }
+    ensures { λ r. ⌜ now (runs .exit) ≡ filled (readVerdict (extensionOf (now (ext .entry))) (now (file .entry)) (length (now (places .entry))) (length (now (runs .entry))) (length (now (blocks .entry)))) (runsTold (extensionOf (now (ext .entry))) (now (file .entry))) (now (runs .entry)) ⌝ }
+    ensures { λ r. ⌜ now (blocks .exit) ≡ filled (readVerdict (extensionOf (now (ext .entry))) (now (file .entry)) (length (now (places .entry))) (length (now (runs .entry))) (length (now (blocks .entry)))) (blocksTold (extensionOf (now (ext .entry))) (now (file .entry))) (now (blocks .entry)) ⌝ }
+{
+    let named = extension_of(ext);
+    let Extension::Of(f) = named else {
+        return ReadAnswer::Unread(Refusal::UnknownExtension);
+    };
+    read_stitch_file(f, file, places, runs, blocks)
+}

@@ -1,0 +1,50 @@
+-- The length by the function of the format.
+use mathlib.Core.Path.{_≡_}
+use denote.Ref.{now}
+use lib.ListN.{drop}
+use Rattle.rules.specs.declared.Format.{Format}
+use Rattle.records.specs.Plain.{plainLen}
+use Rattle.laws.specs.Arms.{pes-pec, exp-jef}
+use borrow.Author.Needs.{needs}
+use Rattle.records.proofs.plain.plain_len.Statement.{statement}
+use Rattle.records.proofs.plain.plain_len.Tie as tie
+
+pec-len-requires : tie.Need-pec-len-requires
+pec-len-requires c κs = search needs
+
+enum-told : tie.Need-enum-told
+enum-told c = search needs
+
+dst-len-requires : tie.Need-dst-len-requires
+dst-len-requires c κs = search needs
+
+pair-len-requires : tie.Need-pair-len-requires
+pair-len-requires c κs = search needs
+
+returns : tie.Need-returns
+unfolding plainLen
+returns c =
+    let a = c .before .before .before .args in
+    pes-pec (λ (f : Format). c .pec-len .result ≡ plainLen f (drop (a .at) (now (a .file)))) (c .pec-len .ensures) (c .pec-len .ensures) (a .f) (c .before .match .keys1)
+
+returns-2 : tie.Need-returns-2
+unfolding plainLen
+returns-2 c = rw (c .before .enum-told .given .1) (c .dst-len .ensures)
+
+returns-3 : tie.Need-returns-3
+unfolding plainLen
+returns-3 c =
+    let a = c .before .before .before .args in
+    exp-jef (λ (f : Format). c .pair-len .result ≡ plainLen f (drop (a .at) (now (a .file)))) (c .pair-len .ensures) (c .pair-len .ensures) (a .f) (c .before .match .keys3)
+
+pub plain-len-spec : {M : Type 1} → statement M
+plain-len-spec =
+    tie.close
+    (tie.spec
+    pec-len-requires
+    enum-told
+    dst-len-requires
+    pair-len-requires
+    returns
+    returns-2
+    returns-3)
