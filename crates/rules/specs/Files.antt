@@ -7,8 +7,8 @@ use lib.Signed.{ltZ, leZ}
 use lib.Dec.{eqb, ltb, leb}
 use lib.ListN.{length, take, drop, getD}
 use Rattle.rules.specs.Vocabulary.{pick, signed, fromLittle, sameBytes}
-use Rattle.rules.specs.Lists.{threadsOf}
-use Rattle.rules.specs.Refusals.{numberOf, verdict}
+use Rattle.rules.specs.Lists.{commands, threadsOf}
+use Rattle.rules.specs.Refusals.{numberOf, verdict, listRefusals}
 use Rattle.rules.specs.Charts.{color, pecChart, jefChart}
 use Rattle.rules.specs.Records.{Event, events}
 use Rattle.rules.specs.Dst.{dstFirst, dstFile}
@@ -33,6 +33,8 @@ use Rattle.rules.specs.declared.Slot.{Slot}
 use Rattle.rules.specs.declared.Slot.the-variants.{Empty, Thread}
 use Rattle.rules.specs.declared.Verdict.{Verdict}
 use Rattle.rules.specs.declared.Verdict.the-variants.{Accepted, Refused}
+use Rattle.rules.specs.declared.WriteAnswer.{WriteAnswer}
+use Rattle.rules.specs.declared.WriteAnswer.the-variants.{Written, Unwritten}
 
 -- ---- writing
 
@@ -316,6 +318,37 @@ readCounts (Unread r) = record { points = 0; runs = 0; blocks = 0; cuts = 0 }
 unfoldable pub filled : {A : Type 0} → Verdict → List A → List A → List A
 filled Accepted answer l = answer ++ drop (length answer) l
 filled (Refused r) answer l = l
+
+-- ---- writing: what the call gives back
+
+-- the file by extension
+unfoldable pub fileTold : Extension → List ℕ → List Cmd → List ℕ → List ℕ
+fileTold Unknown name cs threads = []
+fileTold (Of f) name cs threads = fileOf f name cs threads
+
+-- Writing checks 1, 6, 7, 8, 9, 10, 11; n is the length of the buffer lent.
+unfoldable pub writeVerdict : Extension → List ℕ → List ℤ → List ℤ → List ℕ → List ℕ → ℕ → Verdict
+writeVerdict Unknown name xs ys kinds threads n = verdict ((UnknownExtension, true) ∷ [])
+writeVerdict (Of f) name xs ys kinds threads n = verdict
+    (listRefusals f xs ys kinds threads
+    ++ (BufferTooShort, ltb n (length (fileOf f name (commands xs ys kinds) threads)))
+    ∷ [])
+
+-- what a write answers under a verdict: the length of the file
+unfoldable pub writeAnswer : Verdict → ℕ → WriteAnswer
+writeAnswer Accepted len = Written len
+writeAnswer (Refused r) len = Unwritten r
+
+-- the number, 0 without a refusal, and the length, 0 with one
+unfoldable pub writeNumber : WriteAnswer → ℕ
+writeNumber (Written len) = 0
+writeNumber (Unwritten r) = numberOf r
+
+unfoldable pub writeLength : WriteAnswer → ℕ
+writeLength (Written len) = len
+writeLength (Unwritten r) = 0
+
+-- ---- the label
 
 -- the label by its own call, which meets every refusal of reading but 11: empty under each
 unfoldable pub labelUnder : Verdict → List ℕ → List ℕ

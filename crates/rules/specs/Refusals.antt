@@ -93,12 +93,16 @@ unfoldable pub verdict : List (Refusal × Bool) → Verdict
 verdict [] = Accepted
 verdict (c ∷ cs) = pick (c .1) (Refused (c .0)) (verdict cs)
 
--- A list with its threads is accepted for a format if none of 6 to 10 holds of them.
-unfoldable pub listVerdict : Format → List ℤ → List ℤ → List ℕ → List ℕ → Verdict
-listVerdict f xs ys kinds threads = verdict
-    ((BadList, badList xs ys kinds)
+-- each over the whole list
+unfoldable pub listRefusals : Format → List ℤ → List ℤ → List ℕ → List ℕ → List (Refusal × Bool)
+listRefusals f xs ys kinds threads =
+    (BadList, badList xs ys kinds)
     ∷ (PlaceOutside, placeOutside (commands xs ys kinds))
     ∷ (TooMany, tooMany (commands xs ys kinds) threads)
     ∷ (Moved, moved (commands xs ys kinds))
     ∷ (StepTooLong, stepTooLong f (commands xs ys kinds))
-    ∷ [])
+    ∷ []
+
+-- A list with its threads is accepted for a format if none of 6 to 10 holds of them.
+unfoldable pub listVerdict : Format → List ℤ → List ℤ → List ℕ → List ℕ → Verdict
+listVerdict f xs ys kinds threads = verdict (listRefusals f xs ys kinds threads)

@@ -88,6 +88,12 @@ pub enum ReadAnswer {
     Unread(Refusal),
 }
 
+// What a write answers: the length of the file.
+pub enum WriteAnswer {
+    Written(usize),
+    Unwritten(Refusal),
+}
+
 // What the first record of a list of bytes does, by how far it moves, and the bytes it takes.
 pub enum Record {
     StitchBy { dx: i32, dy: i32, len: usize },

@@ -11,7 +11,7 @@ use lib.Dec.{eqb, ltb}
 use lib.ListN.{length}
 use Rattle.rules.specs.Vocabulary.{pick, any, count}
 use Rattle.rules.specs.Lists.{opOf, commands, endsOnce, samePlace, stands, anyFrom, stepIn}
-use Rattle.rules.specs.Refusals.{badList, placeOutside, changes, tooMany, moves, moved, stepsPast, stepTooLong, verdict, listVerdict}
+use Rattle.rules.specs.Refusals.{badList, placeOutside, changes, tooMany, moves, moved, stepsPast, stepTooLong, verdict, listRefusals, listVerdict}
 use Rattle.rules.specs.declared.Cmd.{Cmd}
 use Rattle.rules.specs.declared.Format.{Format}
 use Rattle.rules.specs.declared.Op.{Op}
@@ -31,7 +31,7 @@ pub record Taken (f : Format) (xs ys : List ℤ) (kinds threads : List ℕ) : Ty
   pub steps : stepTooLong f (commands xs ys kinds) ≡ false
 
 pub taken : (f : Format) (xs ys : List ℤ) (kinds threads : List ℕ) → listVerdict f xs ys kinds threads ≡ Accepted → Taken f xs ys kinds threads
-unfolding listVerdict verdict
+unfolding listVerdict listRefusals verdict
 taken f xs ys kinds threads e =
     let a = first-false (badList xs ys kinds) _ _ e in
     let b = first-false (placeOutside (commands xs ys kinds)) _ _ (a .1) in

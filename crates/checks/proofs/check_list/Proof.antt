@@ -1,5 +1,5 @@
 -- The answer is the first of refusals 6 to 10 that holds, asked in their order.
-use Rattle.rules.specs.Refusals.{verdict, listVerdict}
+use Rattle.rules.specs.Refusals.{verdict, listRefusals, listVerdict}
 use borrow.Author.Needs.{needs}
 use Rattle.checks.proofs.check_list.Statement.{statement}
 use Rattle.checks.proofs.check_list.Tie as tie
@@ -8,14 +8,14 @@ bad-list-requires : tie.Need-bad-list-requires
 bad-list-requires c κs = search needs
 
 returns : tie.Need-returns
-unfolding listVerdict verdict
+unfolding listVerdict listRefusals verdict
 returns c = rw (← c .before .bad-list .ensures, c .if1 .taken)
 
 place-outside-requires : tie.Need-place-outside-requires
 place-outside-requires c κs = search needs
 
 returns-2 : tie.Need-returns-2
-unfolding listVerdict verdict
+unfolding listVerdict listRefusals verdict
 returns-2 c =
     let e1 = c .before .before in
     rw (
@@ -29,7 +29,7 @@ too-many-requires : tie.Need-too-many-requires
 too-many-requires c κs = search needs
 
 returns-3 : tie.Need-returns-3
-unfolding listVerdict verdict
+unfolding listVerdict listRefusals verdict
 returns-3 c =
     let e2 = c .before .before in
     let e1 = e2 .before .before in
@@ -46,7 +46,7 @@ moved-requires : tie.Need-moved-requires
 moved-requires c κs = search needs
 
 returns-4 : tie.Need-returns-4
-unfolding listVerdict verdict
+unfolding listVerdict listRefusals verdict
 returns-4 c =
     let e3 = c .before .before in
     let e2 = e3 .before .before in
@@ -66,7 +66,7 @@ step-too-long-requires : tie.Need-step-too-long-requires
 step-too-long-requires c κs = search needs
 
 returns-5 : tie.Need-returns-5
-unfolding listVerdict verdict
+unfolding listVerdict listRefusals verdict
 returns-5 c =
     let e4 = c .before .before in
     let e3 = e4 .before .before in
@@ -86,7 +86,7 @@ returns-5 c =
     )
 
 returns-6 : tie.Need-returns-6
-unfolding listVerdict verdict
+unfolding listVerdict listRefusals verdict
 returns-6 c =
     let e4 = c .before .before in
     let e3 = e4 .before .before in

@@ -1,0 +1,56 @@
+-- One byte of the text after the other.
+use Prim.Native.Nat.{_+_, _-_}
+use mathlib.Core.List.{[], _∷_}
+use native.Mathlib.Omega.{arith}
+use denote.Ref.{now}
+use lib.ListN.{length, drop, getD}
+use Rattle.laws.specs.Buffers.{Writing, writing-start, writing-room, writing-more, writing-done}
+use Rattle.laws.specs.Decimals.{text-more}
+use Rattle.laws.specs.Listing.{list-end}
+use Rattle.emit.proofs.put_text.Statement.{statement}
+use Rattle.emit.proofs.put_text.Tie as tie
+
+abbrev Inv-loop : tie.InvT-loop
+Inv-loop out₀ at text i₀ to₀ out i to = Writing out₀ at text out to (drop i text)
+
+abbrev μ-loop : tie.MeasureT-loop
+μ-loop out₀ at text i₀ to₀ out i to = length text - i
+
+loop-holds : tie.Need-loop-holds Inv-loop μ-loop
+loop-holds c = let a = c .before .before .args in writing-start (now (a .out)) (a .at) (now (a .text)) (c .before .before .pre)
+
+shared-slice-read-put : tie.Need-shared-slice-read-put Inv-loop μ-loop
+shared-slice-read-put c = c .before .before .loop-test .taken
+
+put-requires : tie.Need-put-requires Inv-loop μ-loop
+put-requires c κs = let t = now (c .before .before .before .before .before .before .args .text) in writing-room (getD t (c .before .before .before .loop .i) 0 ∷ []) (drop (c .before .before .before .loop .i + 1) t) (c .before .before .before .loop .inv) (text-more t (c .before .before .before .loop .i) 0 (c .before .before .loop-test .taken))
+
+add-i : tie.Need-add-i Inv-loop μ-loop
+add-i c = omega (arith, c .before .before .before .before .before .loop-test .taken)
+
+loop-less : tie.Need-loop-less Inv-loop μ-loop
+loop-less c = omega (arith, c .before .before .before .before .before .loop-test .taken)
+
+loop-again : tie.Need-loop-again Inv-loop μ-loop
+loop-again c = let t = now (c .before .before .before .before .before .before .before .before .before .args .text) in writing-more {vs = getD t (c .before .before .before .before .before .before .loop .i) 0 ∷ []} (c .before .before .before .before .before .before .loop .inv) (text-more t (c .before .before .before .before .before .before .loop .i) 0 (c .before .before .before .before .before .loop-test .taken)) (c .before .before .put .ensures)
+
+same-length : tie.Need-same-length Inv-loop μ-loop
+same-length c = c .before .loop .inv .same
+
+returns : tie.Need-returns Inv-loop μ-loop
+returns c = writing-done (c .before .loop .inv) (list-end (now (c .before .before .before .before .args .text)) (c .before .loop .i) (c .loop-test .left))
+
+pub put-text-spec : {M : Type 1} → statement M
+put-text-spec =
+    tie.close
+    (tie.spec
+    Inv-loop
+    μ-loop
+    loop-holds
+    shared-slice-read-put
+    put-requires
+    add-i
+    loop-less
+    loop-again
+    same-length
+    returns)

@@ -1,0 +1,132 @@
+// Bytes, numbers and texts into a lent buffer: each function puts its bytes from `at` on and answers the place behind them.
+ghost use mathlib.Core.Path.{_≡_};
+ghost use mathlib.Core.List.{[], _∷_};
+ghost use Prim.Native.Nat.{_+_, _*_, _^_, _≤_, _<_};
+ghost use lib.ListN.{length, replicate};
+ghost use Rattle.rules.specs.Vocabulary.{little, digitAt, right};
+ghost use Rattle.laws.specs.Buffers.{Put};
+
+pub fn put(out: &mut [u8], at: usize, a: u8) -> usize
+    requires { ⌜ at + 1 ≤ length (now out) ⌝ }
+    ensures { λ r. ⌜ Put (now (out .entry)) (now (out .exit)) at r (a ∷ []) ⌝ }
+{
+    out[at] = a;
+    at + 1
+}
+
+pub fn put2(out: &mut [u8], at: usize, a: u8, b: u8) -> usize
+    requires { ⌜ at + 2 ≤ length (now out) ⌝ }
+    ensures { λ r. ⌜ Put (now (out .entry)) (now (out .exit)) at r (a ∷ b ∷ []) ⌝ }
+{
+    out[at] = a;
+    out[at + 1] = b;
+    at + 2
+}
+
+pub fn put3(out: &mut [u8], at: usize, a: u8, b: u8, c: u8) -> usize
+    requires { ⌜ at + 3 ≤ length (now out) ⌝ }
+    ensures { λ r. ⌜ Put (now (out .entry)) (now (out .exit)) at r (a ∷ b ∷ c ∷ []) ⌝ }
+{
+    out[at] = a;
+    out[at + 1] = b;
+    out[at + 2] = c;
+    at + 3
+}
+
+pub fn put4(out: &mut [u8], at: usize, a: u8, b: u8, c: u8, d: u8) -> usize
+    requires { ⌜ at + 4 ≤ length (now out) ⌝ }
+    ensures { λ r. ⌜ Put (now (out .entry)) (now (out .exit)) at r (a ∷ b ∷ c ∷ d ∷ []) ⌝ }
+{
+    out[at] = a;
+    out[at + 1] = b;
+    out[at + 2] = c;
+    out[at + 3] = d;
+    at + 4
+}
+
+// A number in four bytes, the low byte first.
+pub fn put_word(out: &mut [u8], at: usize, v: u32) -> usize
+    requires { ⌜ at + 4 ≤ length (now out) ⌝ }
+    ensures { λ r. ⌜ Put (now (out .entry)) (now (out .exit)) at r (little 4 v) ⌝ }
+{
+    let high = v / 256;
+    let higher = high / 256;
+    let top = higher / 256;
+    put4(
+        out,
+        at,
+        (v % 256) as u8,
+        (high % 256) as u8,
+        (higher % 256) as u8,
+        (top % 256) as u8,
+    )
+}
+
+pub fn put_text(out: &mut [u8], at: usize, text: &[u8]) -> usize
+    requires { ⌜ at + length (now text) ≤ length (now out) ⌝ }
+    ensures { λ r. ⌜ Put (now (out .entry)) (now (out .exit)) at r (now (text .entry)) ⌝ }
+{
+    let mut i = 0;
+    let mut to = at;
+    while i < text.len() {
+        to = put(out, to, text[i]);
+        i += 1;
+    }
+    to
+}
+
+// The same byte n times.
+pub fn put_times(out: &mut [u8], at: usize, a: u8, n: usize) -> usize
+    requires { ⌜ at + n ≤ length (now out) ⌝ }
+    ensures { λ r. ⌜ Put (now (out .entry)) (now (out .exit)) at r (replicate n a) ⌝ }
+{
+    let mut left = n;
+    let mut to = at;
+    while 0 < left {
+        to = put(out, to, a);
+        left -= 1;
+    }
+    to
+}
+
+const POWERS: [u32; 10] = [
+    1,
+    10,
+    100,
+    1000,
+    10000,
+    100000,
+    1000000,
+    10000000,
+    100000000,
+    1000000000,
+];
+
+// Digit k of v, counted from the right, as a character; a blank where v has no such digit.
+fn digit_at(k: usize, v: u32) -> u8
+    requires { ⌜ k < 10 ⌝ }
+    ensures { λ r. ⌜ r ≡ digitAt k v ⌝ }
+{
+    if k == 0 {
+        return 0x30 + (v % 10) as u8;
+    }
+    let p = POWERS[k];
+    if v < p {
+        return 0x20;
+    }
+    0x30 + (v / p % 10) as u8
+}
+
+// A number in decimal, right-aligned in n columns.
+pub fn put_right(out: &mut [u8], at: usize, n: usize, v: u32) -> usize
+    requires { ⌜ (n ≤ 10) × (at + n ≤ length (now out)) ⌝ }
+    ensures { λ r. ⌜ Put (now (out .entry)) (now (out .exit)) at r (right n v) ⌝ }
+{
+    let mut left = n;
+    let mut to = at;
+    while 0 < left {
+        to = put(out, to, digit_at(left - 1, v));
+        left -= 1;
+    }
+    to
+}
