@@ -20,12 +20,13 @@ import sys
 HERE = os.path.dirname(os.path.abspath(__file__))
 RULES = os.path.join(HERE, "..", "crates", "rules")
 FORMATS = ["Pes", "Pec", "Dst", "Exp", "Jef"]
+LISTS = {"reads": "../crates/replay_reads/data/reads", "writes": "answers/writes"}
 LONG = 1 << 30
 REFUSALS = {1: "UnknownExtension", 3: "NotPes", 4: "FileTooShort", 5: "StartBelowZero"}
 
 
 def cases(name):
-    data, at = open(os.path.join(HERE, "answers", name), "rb").read(), 0
+    data, at = open(os.path.join(HERE, LISTS[name]), "rb").read(), 0
     while at < len(data):
         length = struct.unpack_from("<H", data, at)[0]
         yield data[at + 2 : at + 2 + length]

@@ -25,7 +25,7 @@ impl Kind {
     pub fn path(self) -> PathBuf {
         let home = Path::new(env!("CARGO_MANIFEST_DIR"));
         home.join(match self {
-            Kind::Reads => "answers/reads",
+            Kind::Reads => "../crates/replay_reads/data/reads",
             Kind::Writes => "answers/writes",
             Kind::Choices => "../crates/replay_choices/data/choices",
         })

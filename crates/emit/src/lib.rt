@@ -2,6 +2,7 @@
 ghost use mathlib.Core.Path.{_≡_};
 ghost use mathlib.Core.List.{[], _∷_};
 ghost use Prim.Native.Nat.{_+_, _*_, _^_, _≤_, _<_};
+ghost use lib.IntN.{natAbs};
 ghost use lib.ListN.{length, replicate};
 ghost use Rattle.rules.specs.Vocabulary.{little, digitAt, right};
 ghost use Rattle.laws.specs.Buffers.{Put};
@@ -129,4 +130,15 @@ pub fn put_right(out: &mut [u8], at: usize, n: usize, v: u32) -> usize
         left -= 1;
     }
     to
+}
+
+// How far a number is from 0.
+pub fn size(z: i64) -> u32
+    requires { ⌜ natAbs z ≤ 4294967295 ⌝ }
+    ensures { λ r. ⌜ r ≡ natAbs z ⌝ }
+{
+    if z < 0 {
+        return (0 - z) as u32;
+    }
+    z as u32
 }

@@ -1,0 +1,74 @@
+// Reads an extension, a newline and a file from standard input, and prints what the file sews.
+mod show;
+
+use formats::extension_of;
+use libc::STDIN_FILENO;
+use rules::Extension;
+use rules::ReadAnswer;
+use rules::Refusal;
+ghost use Prim.Native.Nat.{ℕ, _≤_, _<_};
+ghost use mathlib.Core.Path.{_≡_};
+ghost use lib.ListN.{length, getD};
+
+// Where the first line ends: at its newline, or where the input ends.
+fn line_end(input: &[u8]) -> usize
+    ensures within { λ r. ⌜ r ≤ length (now (input .entry)) ⌝ }
+    ensures before { λ r. ⌜ ((k : ℕ) → k < r → getD (now (input .entry)) k 0 ≡ 10 → ⊥) ⌝ }
+    ensures found { λ r. ⌜ (r < length (now (input .entry)) → getD (now (input .entry)) r 0 ≡ 10) ⌝ }
+{
+    let mut i = 0;
+    while i < input.len() {
+        if input[i] == b'\n' {
+            return i;
+        }
+        i += 1;
+    }
+    i
+}
+
+// Why a file past 65,536 bytes is refused: the extension is asked first.
+fn too_long(ext: &[u8]) -> Refusal {
+    let named = extension_of(ext);
+    match named {
+        Extension::Of(_) => Refusal::FileTooLong,
+        Extension::Unknown => Refusal::UnknownExtension,
+    }
+}
+
+fn answer(ext: &[u8], file: &[u8]) {
+    if 65536 < file.len() {
+        show::refused(too_long(ext));
+        return;
+    }
+    let mut places = [0i32; 16384];
+    let mut runs = [0u32; 16384];
+    let mut blocks = [0u32; 16384];
+    let told = read::read(ext, file, &mut places, &mut runs, &mut blocks);
+    match told {
+        ReadAnswer::Read(c) => {
+            show::counts(ext, c);
+            show::label(front::label(ext, file));
+            show::blocks(&places, &runs, &blocks, c.blocks);
+        }
+        ReadAnswer::Unread(why) => show::refused(why),
+    }
+}
+
+// Input without a newline is all extension.
+fn split(input: &[u8]) {
+    let end = line_end(input);
+    if end == input.len() {
+        answer(input, &input[end..]);
+        return;
+    }
+    let start = end + 1;
+    answer(&input[..end], &input[start..]);
+}
+
+// The buffer holds three bytes of extension, a newline and one byte more than a file may have. Of
+// more input the answer is known: a longer extension is none of the five, or the file is too long.
+fn main() {
+    let mut input = [0u8; 65541];
+    let n = io::read_full(STDIN_FILENO, &mut input);
+    split(&input[..n]);
+}
