@@ -1,5 +1,6 @@
 //! Lays the published modules, byte for byte, into the build folder, with our
-//! stand-ins beside them, and tells the crate where they are.
+//! stand-ins beside them, and tells the crate where they are. Links the port's
+//! archive if there is one.
 
 use std::path::{Path, PathBuf};
 use std::process::exit;
@@ -19,6 +20,9 @@ const PUBLISHED: [&str; 8] = [
 
 /// Modules that `formats/mod.rs` names and that are ours here.
 const STANDINS: [&str; 3] = ["pen.rs", "preview.rs", "worksheet.rs"];
+
+/// The port's read for C.
+const ARCHIVE: &str = "libstitch_box_c.a";
 
 fn main() {
     let home = PathBuf::from(env::var_os("CARGO_MANIFEST_DIR").unwrap());
@@ -46,6 +50,26 @@ fn main() {
     let root = declare("geom", "geom.rs") + &declare("formats", "formats/mod.rs");
     fs::write(out.join("modules.rs"), root).unwrap();
     fs::write(out.join("more.rs"), declare("more", "formats/more.rs")).unwrap();
+    link(&home);
+}
+
+/// Links the archive in the folder that STITCH_BOX_LIB names, or else where the
+/// port's own build puts it, and sets the cfg `stitch_box`.
+fn link(home: &Path) {
+    println!("cargo::rustc-check-cfg=cfg(stitch_box)");
+    println!("cargo::rerun-if-env-changed=STITCH_BOX_LIB");
+    let named = env::var_os("STITCH_BOX_LIB").map(PathBuf::from);
+    let folders = named.into_iter().chain([home.join("../target/staticlib")]);
+    for folder in folders {
+        let archive = folder.join(ARCHIVE);
+        if archive.is_file() {
+            println!("cargo::rerun-if-changed={}", archive.display());
+            println!("cargo::rustc-link-search=native={}", folder.display());
+            println!("cargo::rustc-link-lib=static=stitch_box_c");
+            println!("cargo::rustc-cfg=stitch_box");
+            return;
+        }
+    }
 }
 
 fn lay(from: &Path, to: &Path) {

@@ -3,13 +3,18 @@
 use crate::bytes::{self, Cursor, put_i16, put_long, put_short, put_u16};
 use crate::formats::{color_distance, nearest_index, pec_palette, stream_bounds};
 use crate::leaves::Leaf;
-use crate::oracle::{self, Block, Command, Format};
+use crate::oracle::{self, Answer, Block, Command, Format};
 use crate::{files, leaves, lists, sewing};
 use std::path::{Path, PathBuf};
-use std::{fs, io};
+use std::{fmt, fs, io};
 
 /// Every random number of the lists comes from this.
 pub const SEED: u64 = 20_261_113;
+
+/// No case is longer, since its length stands in two bytes.
+const LONGEST_CASE: usize = 65_535;
+/// Bytes behind a length of one byte are no more than this.
+const LONGEST_SHORT: usize = 255;
 
 /// The lists, in the folders they are kept in.
 #[derive(Clone, Copy)]
@@ -62,9 +67,7 @@ impl Kind {
             Kind::Reads => {
                 let mut cursor = Cursor(case);
                 let length = cursor.u8();
-                let ext = std::str::from_utf8(cursor.take(length.into())).ok();
-                let format = ext.and_then(Format::of);
-                format.map_or("other", Format::ext).to_string()
+                group(cursor.take(length.into())).to_string()
             }
             Kind::Writes => Format::ALL[usize::from(case[0])].ext().to_string(),
             Kind::Choices => format!("what {}", case[0]),
@@ -104,26 +107,39 @@ pub fn check_all() -> io::Result<bool> {
 }
 
 fn report(kind: Kind, list: &[u8]) {
-    let cases = bytes::cases(list);
-    let mut groups: Vec<(String, usize)> = Vec::new();
-    for case in &cases {
-        let name = kind.group(case);
-        match groups.iter_mut().find(|(known, _)| *known == name) {
+    let mut groups = Groups::default();
+    for case in bytes::cases(list) {
+        groups.add(&kind.group(case));
+    }
+    println!("{}: {groups}, {} bytes", kind.name(), list.len());
+}
+
+/// What a file with this extension is counted under.
+pub fn group(ext: &[u8]) -> &'static str {
+    let format = std::str::from_utf8(ext).ok().and_then(Format::of);
+    format.map_or("other", Format::ext)
+}
+
+/// How many cases there are under each name.
+#[derive(Default)]
+pub struct Groups(Vec<(String, usize)>);
+
+impl Groups {
+    pub fn add(&mut self, name: &str) {
+        match self.0.iter_mut().find(|(known, _)| known == name) {
             Some((_, count)) => *count += 1,
-            None => groups.push((name, 1)),
+            None => self.0.push((name.to_string(), 1)),
         }
     }
-    let shown: Vec<String> = groups
-        .iter()
-        .map(|(name, count)| format!("{name} {count}"))
-        .collect();
-    println!(
-        "{}: {} cases ({}), {} bytes",
-        kind.name(),
-        cases.len(),
-        shown.join(", "),
-        list.len()
-    );
+}
+
+impl fmt::Display for Groups {
+    fn fmt(&self, out: &mut fmt::Formatter) -> fmt::Result {
+        let total: usize = self.0.iter().map(|(_, count)| count).sum();
+        let shown = |(name, count): &(String, usize)| format!("{name} {count}");
+        let shown: Vec<String> = self.0.iter().map(shown).collect();
+        write!(out, "{total} cases ({})", shown.join(", "))
+    }
 }
 
 /// The reads whose block numbers are certain, short ones first.
@@ -136,12 +152,21 @@ fn reads() -> Vec<Vec<u8>> {
 }
 
 fn read(ext: &[u8], file: &[u8]) -> Option<Vec<u8>> {
+    read_case(ext, file, &oracle::read(ext, file))
+}
+
+/// A case of the list of reads; none if its block numbers are not certain or
+/// it does not fit the layout.
+pub fn read_case(ext: &[u8], file: &[u8], answer: &Answer) -> Option<Vec<u8>> {
+    if ext.len() > LONGEST_SHORT || file.len() > LONGEST_CASE {
+        return None;
+    }
     let mut case = Vec::new();
     put_short(&mut case, ext);
     put_long(&mut case, file);
-    match oracle::read(ext, file) {
-        Err(number) => case.push(number),
-        Ok(reading) if !reading.exact => return None,
+    match answer {
+        Err(number) => case.push(*number),
+        Ok(reading) if !reading.exact || reading.label.len() > LONGEST_SHORT => return None,
         Ok(reading) => {
             case.push(0);
             put_short(&mut case, &reading.label);
@@ -151,7 +176,7 @@ fn read(ext: &[u8], file: &[u8]) -> Option<Vec<u8>> {
             }
         }
     }
-    Some(case)
+    (case.len() <= LONGEST_CASE).then_some(case)
 }
 
 fn put_block(case: &mut Vec<u8>, block: &Block) {

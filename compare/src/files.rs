@@ -29,7 +29,8 @@ fn file(ext: &str, bytes: Vec<u8>) -> File {
     File { ext, bytes }
 }
 
-fn in_domain(file: &File) -> bool {
+/// Whether document 01 holds the rules and the published Rust for equal here.
+pub fn in_domain(file: &File) -> bool {
     let format = std::str::from_utf8(&file.ext).ok().and_then(Format::of);
     let start = match format {
         Some(Format::Dst) => return file.bytes.iter().take(512).all(u8::is_ascii),
@@ -48,33 +49,35 @@ fn start(pes: &[u8]) -> Option<usize> {
 }
 
 /// Extensions of any case, and other ones.
+pub const EXTS: [&[u8]; 24] = [
+    b"",
+    b"e",
+    b"ex",
+    b"exp",
+    b"EXP",
+    b"eXp",
+    b"exp ",
+    b" exp",
+    b"exp\r",
+    b".exp",
+    b"expp",
+    b"pes",
+    b"PeS",
+    b"pec",
+    b"PEC",
+    b"dst",
+    b"DSt",
+    b"jef",
+    b"JEF",
+    b"vp3",
+    b"pen",
+    b"\xFF",
+    b"e\xC3\xA9",
+    b"jef\0",
+];
+
+/// Each extension with an empty file and with a short one.
 fn extensions() -> Vec<File> {
-    const EXTS: [&[u8]; 24] = [
-        b"",
-        b"e",
-        b"ex",
-        b"exp",
-        b"EXP",
-        b"eXp",
-        b"exp ",
-        b" exp",
-        b"exp\r",
-        b".exp",
-        b"expp",
-        b"pes",
-        b"PeS",
-        b"pec",
-        b"PEC",
-        b"dst",
-        b"DSt",
-        b"jef",
-        b"JEF",
-        b"vp3",
-        b"pen",
-        b"\xFF",
-        b"e\xC3\xA9",
-        b"jef\0",
-    ];
     let body = [4, 0, 0, 0, 1, 2, 3, 4, 0x80, 1, 0, 0, 5, 6];
     let both = |ext: &&[u8]| {
         [&[][..], &body].map(|bytes| File {
@@ -86,22 +89,23 @@ fn extensions() -> Vec<File> {
 }
 
 /// Bytes that matter to the records of EXP and JEF.
-const PAIRS: [u8; 16] = [
+pub const PAIRS: [u8; 16] = [
     0x00, 0x01, 0x01, 0x02, 0x04, 0x05, 0x07, 0x10, 0x7F, 0x80, 0x80, 0x80, 0x80, 0x81, 0xF6, 0xFF,
 ];
 
 /// Bytes that matter to the records of PEC.
-const STEPS: [u8; 20] = [
+pub const STEPS: [u8; 20] = [
     0x00, 0x01, 0x3E, 0x3F, 0x40, 0x41, 0x7F, 0x80, 0x87, 0x88, 0x8F, 0x90, 0xA0, 0xB0, 0xB0, 0xC0,
     0xFE, 0xFE, 0xFF, 0x02,
 ];
 
 /// Third bytes that matter to the records of DST.
-const THIRDS: [u8; 14] = [
+pub const THIRDS: [u8; 14] = [
     0x03, 0x03, 0x03, 0x83, 0x83, 0xC3, 0xC3, 0x43, 0xE3, 0xD3, 0xF3, 0x07, 0xBF, 0x00,
 ];
 
-fn body(length: usize, from: &[u8], random: &mut Random) -> Vec<u8> {
+/// Bytes most of which are of those that matter.
+pub fn body(length: usize, from: &[u8], random: &mut Random) -> Vec<u8> {
     let mut byte = || match random.below(5) {
         0 => random.byte(),
         _ => random.pick(from),
@@ -142,7 +146,7 @@ fn exp(random: &mut Random) -> Vec<File> {
 }
 
 /// A JEF: offset, count at 24, thread table at 116, and a body behind it.
-fn jef_file(offset: i32, count: i32, table: &[i32], body: &[u8]) -> Vec<u8> {
+pub fn jef_file(offset: i32, count: i32, table: &[i32], body: &[u8]) -> Vec<u8> {
     let mut bytes = vec![0; 116];
     bytes[..4].copy_from_slice(&offset.to_le_bytes());
     bytes[24..28].copy_from_slice(&count.to_le_bytes());
@@ -200,7 +204,7 @@ fn jef_headers() -> Vec<File> {
 }
 
 /// The PEC part: label, count byte, colours and stitches in their places.
-fn pec_part(label: &[u8], count: u8, colours: &[u8], body: &[u8]) -> Vec<u8> {
+pub fn pec_part(label: &[u8], count: u8, colours: &[u8], body: &[u8]) -> Vec<u8> {
     let mut bytes = b"LA:".to_vec();
     bytes.extend_from_slice(label);
     bytes.resize(48, b' ');
@@ -211,11 +215,12 @@ fn pec_part(label: &[u8], count: u8, colours: &[u8], body: &[u8]) -> Vec<u8> {
     bytes
 }
 
-fn pec_file(part: Vec<u8>) -> File {
+pub fn pec_file(part: Vec<u8>) -> File {
     file("pec", [b"#PEC0001", &part[..]].concat())
 }
 
-fn pes_file(start: i32, gap: usize, part: &[u8]) -> File {
+/// A PES: its start, a gap of zeros behind the header, and the PEC part.
+pub fn pes_file(start: i32, gap: usize, part: &[u8]) -> File {
     let mut bytes = b"#PES0001".to_vec();
     bytes.extend_from_slice(&start.to_le_bytes());
     bytes.resize(12 + gap, 0);
@@ -224,7 +229,7 @@ fn pes_file(start: i32, gap: usize, part: &[u8]) -> File {
 }
 
 /// Labels of 16 bytes, blanks and controls at their ends.
-const LABELS: [&[u8; 16]; 8] = [
+pub const LABELS: [&[u8; 16]; 8] = [
     b"label           ",
     b"                ",
     b"\t\n\x0B\x0C\r label \t\r\n\x0C",
@@ -312,7 +317,7 @@ fn pes_starts() -> Vec<File> {
 }
 
 /// A DST: header text filled with blanks, and records.
-fn dst_file(header: &str, records: &[u8]) -> File {
+pub fn dst_file(header: &str, records: &[u8]) -> File {
     let mut bytes = header.as_bytes().to_vec();
     bytes.resize(512, b' ');
     bytes.extend_from_slice(records);
@@ -325,7 +330,7 @@ const RECORDS: [u8; 18] = [
 ];
 
 /// Lines of a DST header, fit and unfit.
-const LINES: [&str; 46] = [
+pub const LINES: [&str; 46] = [
     "LA:name\r",
     "LA: name with blanks \t\r",
     "LA:\t\x0B\x0C \r",

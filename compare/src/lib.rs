@@ -13,18 +13,24 @@ pub type Result<T> = std::result::Result<T, Error>;
 
 include!(concat!(env!("OUT_DIR"), "/modules.rs"));
 
+pub mod against;
 pub mod answers;
+pub mod bench;
 pub mod bytes;
 pub mod design;
 pub mod files;
 pub mod harness;
+pub mod headers;
 pub mod layout;
 pub mod leaves;
 pub mod lists;
+pub mod many;
 pub mod numbers;
 pub mod oracle;
 pub mod params;
+pub mod port;
 pub mod random;
+pub mod records;
 pub mod samples;
 pub mod sewing;
 

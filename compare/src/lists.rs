@@ -105,6 +105,12 @@ pub fn short(format: Format, random: &mut Random) -> Vec<List> {
     lists
 }
 
+/// A random list of so many commands and an end.
+pub fn random(format: Format, length: usize, random: &mut Random) -> List {
+    let script = wander(format, length, random);
+    list(random.pick(&NAMES), &script, random)
+}
+
 /// How many random lists; fewer where the files are long.
 fn random_count(format: Format) -> usize {
     match format {

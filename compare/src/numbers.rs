@@ -38,8 +38,15 @@ pub fn numbers(format: Format, file: &[u8]) -> (Vec<u32>, bool) {
     (found.map(|n| n as u32).collect(), true)
 }
 
+/// The least numbers that fit, whatever the work would be. They are right if
+/// fewer than eight blocks in a row are empty.
+pub fn by_order(format: Format, file: &[u8]) -> (Vec<u32>, bool) {
+    let listed = probe(format, stitches(format, file), &[]);
+    (least(format, &listed), false)
+}
+
 /// The stitch bytes of a file: all that follows its headers.
-fn stitches(format: Format, file: &[u8]) -> &[u8] {
+pub fn stitches(format: Format, file: &[u8]) -> &[u8] {
     let field = |at: usize| {
         let bytes = file.get(at..at + 4).map(|b| b.try_into().unwrap());
         usize::try_from(bytes.map_or(-1, i32::from_le_bytes)).unwrap_or(usize::MAX)

@@ -1,0 +1,2 @@
+-- Lemmas for the writers.
+pub mod Writes
