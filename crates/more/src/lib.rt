@@ -1,4 +1,6 @@
-// JEF: the entry of the chart for each thread.
+// EXP and JEF; here the entry of JEF's chart for each thread.
+pub mod exp;
+
 use formats::Best;
 use rules::Color;
 use rules::Found;

@@ -1,0 +1,4 @@
+pub mod Digits
+pub mod Bytes
+pub mod Lengths
+pub mod Stream

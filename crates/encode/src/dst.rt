@@ -1,0 +1,99 @@
+// DST: signed digits of weight 81, 27, 9, 3, 1 on each axis.
+use emit::put3;
+use rules::Op;
+ghost use mathlib.Core.Path.{_≡_};
+ghost use Prim.Native.Nat.{_+_, _/_, _%_, _≤_, _<_};
+ghost use lib.IntN.{pos, natAbs, negℤ, _+ℤ_, _-ℤ_};
+ghost use lib.ListN.{length};
+ghost use Rattle.rules.specs.Dst.{pair, dstBytes, dstCmd};
+ghost use Rattle.rules.specs.declared.Format.the-variants.{Dst};
+ghost use Rattle.rules.specs.declared.Op.the-variants.{Trim};
+ghost use Rattle.laws.specs.Buffers.{Put};
+ghost use Rattle.encode.specs.Cmds.{trit, lenOf, Step};
+
+// A step raised by 121, so that its digits count from 0.
+fn raised(z: i32) -> u8
+    requires { ⌜ natAbs z ≤ 121 ⌝ }
+    ensures { λ r. ⌜ pos r ≡ z +ℤ pos 121 ⌝ }
+{
+    (z + 121) as u8
+}
+
+// The same of a step's negative.
+fn lowered(z: i32) -> u8
+    requires { ⌜ natAbs z ≤ 121 ⌝ }
+    ensures { λ r. ⌜ pos r ≡ pos 121 -ℤ z ⌝ }
+{
+    (121 - z) as u8
+}
+
+// The bit of one digit of a raised step: that of its sign, or none.
+fn bits(t: u8, weight: u8, plus: u8, minus: u8) -> u8
+    requires { ⌜ (0 < weight) × (plus + minus ≤ 255) ⌝ }
+    ensures { λ r. ⌜ (r ≡ pair plus minus (trit (t / weight % 3))) × (r ≤ plus + minus) ⌝ }
+{
+    let d = t / weight % 3;
+    plus * (d / 2) + minus * ((2 - d) / 2)
+}
+
+// A record that moves by (dx, dy), with the bits of its kind.
+pub fn encode_record(kind: u8, dx: i32, dy: i32) -> [u8; 3]
+    requires { ⌜ (kind ≤ 131) × ((natAbs dx ≤ 121) × (natAbs dy ≤ 121)) ⌝ }
+    ensures { λ r. ⌜ r ≡ dstBytes kind dx (negℤ dy) ⌝ }
+{
+    let x = raised(dx);
+    let y = lowered(dy);
+    [
+        bits(x, 1, 0x01, 0x02)
+            + bits(x, 9, 0x04, 0x08)
+            + bits(y, 9, 0x20, 0x10)
+            + bits(y, 1, 0x80, 0x40),
+        bits(x, 3, 0x01, 0x02)
+            + bits(x, 27, 0x04, 0x08)
+            + bits(y, 27, 0x20, 0x10)
+            + bits(y, 3, 0x80, 0x40),
+        kind + bits(x, 81, 0x04, 0x08) + bits(y, 81, 0x20, 0x10),
+    ]
+}
+
+fn put_record(kind: u8, dx: i32, dy: i32, out: &mut [u8], at: usize) -> usize
+    requires { ⌜ (kind ≤ 131) × ((natAbs dx ≤ 121) × (natAbs dy ≤ 121)) ⌝ }
+    requires { ⌜ at + 3 ≤ length (now out) ⌝ }
+    ensures { λ r. ⌜ Put (now (out .entry)) (now (out .exit)) at r (dstBytes kind dx (negℤ dy)) ⌝ }
+{
+    let r = encode_record(kind, dx, dy);
+    put3(out, at, r[0], r[1], r[2])
+}
+
+// Three jumps that come back read as a trim.
+fn put_trim(out: &mut [u8], at: usize) -> usize
+    requires { ⌜ at + 9 ≤ length (now out) ⌝ }
+    ensures { λ r. ⌜ Put (now (out .entry)) (now (out .exit)) at r (dstCmd Trim (pos 0) (pos 0)) ⌝ }
+{
+    let second = put_record(0x83, 2, 2, out, at);
+    let third = put_record(0x83, -4, -4, out, second);
+    put_record(0x83, 2, 2, out, third)
+}
+
+pub fn dst_len(op: Op) -> usize
+    ensures { λ r. ⌜ (r ≡ lenOf Dst op) × (r ≤ 9) ⌝ }
+{
+    match op {
+        Op::Trim => 9,
+        Op::Stitch | Op::Jump | Op::ColorChange | Op::End => 3,
+    }
+}
+
+pub fn dst_cmd(op: Op, dx: i32, dy: i32, out: &mut [u8], at: usize) -> usize
+    requires { ⌜ Step Dst dx dy ⌝ }
+    requires { ⌜ at + length (dstCmd op dx dy) ≤ length (now out) ⌝ }
+    ensures { λ r. ⌜ Put (now (out .entry)) (now (out .exit)) at r (dstCmd op dx dy) ⌝ }
+{
+    match op {
+        Op::Stitch => put_record(0x03, dx, dy, out, at),
+        Op::Jump => put_record(0x83, dx, dy, out, at),
+        Op::Trim => put_trim(out, at),
+        Op::ColorChange => put3(out, at, 0x00, 0x00, 0xC3),
+        Op::End => put3(out, at, 0x00, 0x00, 0xF3),
+    }
+}

@@ -1,0 +1,50 @@
+// EXP: the commands' bytes and nothing else.
+use checks::check_list;
+use encode::put_stream;
+use encode::stream_len;
+use rules::Format;
+use rules::Refusal;
+use rules::Verdict;
+use rules::WriteAnswer;
+ghost use mathlib.Core.Path.{_≡_};
+ghost use mathlib.Core.Bool.{false};
+ghost use mathlib.Core.List.{[]};
+ghost use Prim.Native.Nat.{_≤_};
+ghost use lib.ListN.{length};
+ghost use Rattle.rules.specs.Lists.{commands};
+ghost use Rattle.rules.specs.Exp.{expFile};
+ghost use Rattle.rules.specs.Files.{writeVerdict, writeAnswer, filled, fileOf};
+ghost use Rattle.rules.specs.Refusals.{stepTooLong};
+ghost use Rattle.rules.specs.declared.Extension.the-variants.{Of};
+ghost use Rattle.rules.specs.declared.Format.the-variants.{Exp};
+ghost use Rattle.emit.specs.Answered.{Answered};
+
+// The file, or refusal 11.
+fn write_accepted(xs: &[i32], ys: &[i32], kinds: &[u8], out: &mut [u8]) -> WriteAnswer
+    requires { ⌜ (length (now kinds) ≤ 65535) × (stepTooLong Exp (commands (now xs) (now ys) (now kinds)) ≡ false) ⌝ }
+    ensures { λ r. ⌜ Answered (expFile (commands (now (xs .entry)) (now (ys .entry)) (now (kinds .entry)))) (now (out .entry)) (now (out .exit)) r ⌝ }
+{
+    let n = stream_len(Format::Exp, xs, ys, kinds);
+    if out.len() < n {
+        return WriteAnswer::Unwritten(Refusal::BufferTooShort);
+    }
+    WriteAnswer::Written(put_stream(Format::Exp, xs, ys, kinds, out, 0))
+}
+
+// Writes a list as an EXP file to the front of the buffer: its length; or why it is refused, and the buffer as it was.
+pub fn write_exp(
+    xs: &[i32],
+    ys: &[i32],
+    kinds: &[u8],
+    threads: &[u8],
+    out: &mut [u8],
+) -> WriteAnswer
+    ensures { λ r. ⌜ r ≡ writeAnswer (writeVerdict (Of Exp) [] (now (xs .entry)) (now (ys .entry)) (now (kinds .entry)) (now (threads .entry)) (length (now (out .entry)))) (length (fileOf Exp [] (commands (now (xs .entry)) (now (ys .entry)) (now (kinds .entry))) (now (threads .entry)))) ⌝ }
+    ensures { λ _. ⌜ now (out .exit) ≡ filled (writeVerdict (Of Exp) [] (now (xs .entry)) (now (ys .entry)) (now (kinds .entry)) (now (threads .entry)) (length (now (out .entry)))) (fileOf Exp [] (commands (now (xs .entry)) (now (ys .entry)) (now (kinds .entry))) (now (threads .entry))) (now (out .entry)) ⌝ }
+{
+    let checked = check_list(Format::Exp, xs, ys, kinds, threads);
+    match checked {
+        Verdict::Accepted => write_accepted(xs, ys, kinds, out),
+        Verdict::Refused(why) => WriteAnswer::Unwritten(why),
+    }
+}
