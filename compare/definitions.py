@@ -20,7 +20,7 @@ import sys
 HERE = os.path.dirname(os.path.abspath(__file__))
 RULES = os.path.join(HERE, "..", "crates", "rules")
 FORMATS = ["Pes", "Pec", "Dst", "Exp", "Jef"]
-LISTS = {"reads": "../crates/replay_reads/data/reads", "writes": "answers/writes"}
+LISTS = {"reads": "../crates/replay_reads/data/reads", "writes": "../crates/replay_writes/data/writes"}
 LONG = 1 << 30
 REFUSALS = {1: "UnknownExtension", 3: "NotPes", 4: "FileTooShort", 5: "StartBelowZero"}
 

@@ -31,7 +31,7 @@ impl Kind {
         let home = Path::new(env!("CARGO_MANIFEST_DIR"));
         home.join(match self {
             Kind::Reads => "../crates/replay_reads/data/reads",
-            Kind::Writes => "answers/writes",
+            Kind::Writes => "../crates/replay_writes/data/writes",
             Kind::Choices => "../crates/replay_choices/data/choices",
         })
     }
@@ -217,7 +217,8 @@ fn writes() -> Vec<Vec<u8>> {
     lists.iter().map(case).collect()
 }
 
-fn write(format: Format, name: &[u8], cmds: &[Command], threads: &[[u8; 3]]) -> Vec<u8> {
+/// A list with the file that the published Rust writes of it, as a case.
+pub fn write(format: Format, name: &[u8], cmds: &[Command], threads: &[[u8; 3]]) -> Vec<u8> {
     let mut case = vec![format as u8];
     put_short(&mut case, name);
     put_u16(&mut case, cmds.len());

@@ -33,6 +33,7 @@ pub mod random;
 pub mod records;
 pub mod samples;
 pub mod sewing;
+pub mod written;
 
 /// Stand-in for `anyhow::bail!`; last, so that the published modules find it
 /// by their `use` alone.

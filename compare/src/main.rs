@@ -1,6 +1,6 @@
 //! Commands of the comparison; see README.md.
 
-use compare::{against, answers, bench, layout, many, port, samples};
+use compare::{against, answers, bench, layout, many, port, samples, written};
 use std::env;
 use std::ffi::OsString;
 use std::io;
@@ -8,7 +8,8 @@ use std::path::Path;
 use std::process::ExitCode;
 
 const USAGE: &str = "usage: compare samples | show EXT FILE | answers | check | \
-    reads COUNT SEED FOLDER | against COUNT SEED | bench [ROUNDS]";
+    reads COUNT SEED FOLDER | \
+    writes COUNT SEED FOLDER | against COUNT SEED | bench [ROUNDS]";
 
 fn main() -> ExitCode {
     let words: Vec<OsString> = env::args_os().skip(1).collect();
@@ -19,6 +20,7 @@ fn main() -> ExitCode {
         (Some("answers"), 1) => answers::write_all().map(|()| true),
         (Some("check"), 1) => answers::check_all(),
         (Some("reads"), 4) => reads(&words[1], &words[2], &words[3]),
+        (Some("writes"), 4) => writes(&words[1], &words[2], &words[3]),
         (Some("against"), 3) => compare(&words[1], &words[2]),
         (Some("bench"), 1) => time(21),
         (Some("bench"), 2) => number(&words[1]).and_then(|rounds| time(rounds as usize)),
@@ -46,6 +48,11 @@ fn show(ext: &OsString, file: &OsString) -> io::Result<bool> {
 fn reads(count: &OsString, seed: &OsString, folder: &OsString) -> io::Result<bool> {
     let (count, seed) = (number(count)?, number(seed)?);
     many::write(count as usize, seed, Path::new(folder)).map(|()| true)
+}
+
+fn writes(count: &OsString, seed: &OsString, folder: &OsString) -> io::Result<bool> {
+    let (count, seed) = (number(count)?, number(seed)?);
+    written::write(count as usize, seed, Path::new(folder)).map(|()| true)
 }
 
 fn compare(count: &OsString, seed: &OsString) -> io::Result<bool> {

@@ -1,9 +1,9 @@
 -- The bytes of a command are as many whatever its step; those of a list are the sum. Assumes nothing.
-use Prim.Native.Nat.{ℕ, _+_, _≤_, _<_}
+use Prim.Native.Nat.{ℕ, _+_, _*_, _≤_, _<_}
 use mathlib.Core.Path.{_≡_, refl}
 use mathlib.Core.List.{List, [], _∷_}
 use native.Mathlib.Omega.{arith}
-use lib.IntN.{ℤ, _-ℤ_}
+use lib.IntN.{ℤ, pos, _-ℤ_}
 use lib.ListN.{length, drop, getD, length-append}
 use Rattle.rules.specs.Dst.{dstBytes, dstCmd}
 use Rattle.rules.specs.Exp.{pairOf, expCmd}
@@ -14,7 +14,7 @@ use Rattle.rules.specs.declared.Format.{Format}
 use Rattle.rules.specs.declared.Format.the-variants.{Pes, Pec, Dst, Exp, Jef}
 use Rattle.rules.specs.declared.Op.{Op}
 use Rattle.rules.specs.declared.Op.the-variants.{Stitch, Jump, Trim, ColorChange, End}
-use Rattle.laws.specs.Listing.{commands-more, list-end}
+use Rattle.laws.specs.Listing.{commands-more, length-commands, list-end}
 use Rattle.encode.specs.Cmds.{cmdOf, lenOf}
 
 dst-long : (op : Op) (dx dy : ℤ) → length (dstCmd op dx dy) ≡ lenOf Dst op
@@ -73,3 +73,35 @@ module _ (f : Format) (xs ys : List ℤ) (ks : List ℕ) (i : ℕ) where
   pub total-end : length (commands xs ys ks) ≤ i → total f (drop i (commands xs ys ks)) ≡ 0
   unfolding total
   total-end l = rw (list-end (commands xs ys ks) i l)
+
+-- ---- no command takes more than nine bytes
+
+most : (f : Format) (op : Op) → lenOf f op ≤ 9
+unfolding lenOf dstCmd dstBytes expCmd jefCmd pairOf
+most Pes op = omega arith
+most Pec op = omega arith
+most Dst Stitch = omega arith
+most Dst Jump = omega arith
+most Dst Trim = omega arith
+most Dst ColorChange = omega arith
+most Dst End = omega arith
+most Exp Stitch = omega arith
+most Exp Jump = omega arith
+most Exp Trim = omega arith
+most Exp ColorChange = omega arith
+most Exp End = omega arith
+most Jef Stitch = omega arith
+most Jef Jump = omega arith
+most Jef Trim = omega arith
+most Jef ColorChange = omega arith
+most Jef End = omega arith
+
+total-most : (f : Format) (cs : List Cmd) → total f cs ≤ 9 * length cs
+unfolding total
+total-most f [] = omega arith
+total-most f (c ∷ cs) = omega (arith, most f (opOf (c .kind)), total-most f cs)
+
+pub stream-most : (f : Format) (xs ys : List ℤ) (ks : List ℕ) → length (written (cmdOf f) (pos 0) (pos 0) (commands xs ys ks)) ≤ 9 * length ks
+stream-most f xs ys ks =
+    let cs = commands xs ys ks in
+    omega (arith, total-is f (pos 0) (pos 0) cs, total-most f cs, length-commands xs ys ks)

@@ -1,13 +1,13 @@
 // The bytes of commands in DST, EXP and JEF: of one, and of all commands of a list.
-pub mod dst;
 pub mod pairs;
+pub mod triples;
 
-use crate::dst::dst_cmd;
-use crate::dst::dst_len;
 use crate::pairs::exp_cmd;
 use crate::pairs::exp_len;
 use crate::pairs::jef_cmd;
 use crate::pairs::jef_len;
+use crate::triples::dst_cmd;
+use crate::triples::dst_len;
 use formats::list_len;
 use formats::op_of;
 use rules::Format;

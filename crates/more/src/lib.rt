@@ -1,5 +1,6 @@
 // EXP and JEF; here the entry of JEF's chart for each thread.
 pub mod exp;
+pub mod jef;
 
 use formats::Best;
 use rules::Color;

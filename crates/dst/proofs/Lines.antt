@@ -1,0 +1,41 @@
+-- A header line put in three parts, and how long the lines are. Assumes nothing.
+use Prim.Native.Nat.{ℕ, _+_}
+use mathlib.Core.Path.{_≡_, sym, _∙_}
+use mathlib.Core.List.{List, [], _∷_, _++_, append-nil}
+use native.Mathlib.Omega.{arith}
+use lib.IntN.{ℤ, natAbs}
+use lib.ListN.{length, length-append}
+use lib.Signed.{nonNeg}
+use Rattle.rules.specs.Dst.{line, signedRight}
+use Rattle.rules.specs.Vocabulary.{pick, joined, right}
+use Rattle.laws.specs.Buffers.{Put, put-put, put-as, put-length}
+use Rattle.laws.specs.Decimals.{length-right}
+
+pub put-line : {d d₁ d₂ d₃ text : List ℕ} {at m n r a b : ℕ} → Put d d₁ at m (a ∷ b ∷ 0x3A ∷ []) → Put d₁ d₂ m n text → Put d₂ d₃ n r (0x0D ∷ [])
+    → Put d d₃ at r (line a b text)
+unfolding line joined
+put-line p q s = put-put p (put-put q s)
+
+pub length-line : (a b : ℕ) (text : List ℕ) → length (line a b text) ≡ length text + 4
+unfolding line joined
+length-line a b text = simp length-append (omega arith)
+
+pub number-line : (a b n v : ℕ) → length (line a b (right n v)) ≡ n + 4
+number-line a b n v = length-line a b (right n v) ∙ rw (length-right n v)
+
+pub signed-line : (a b : ℕ) (z : ℤ) → length (line a b (signedRight z)) ≡ 10
+unfolding signedRight
+signed-line a b z = length-line a b (signedRight z) ∙ rw (length-right 5 (natAbs z))
+
+-- a sign and a number in five columns, as they are put
+pub signed-text : {s n : ℕ} (z : ℤ) → s ≡ pick (nonNeg z) 0x2B 0x2D → n ≡ natAbs z → s ∷ right 5 n ≡ signedRight z
+unfolding signedRight
+signed-text z e h = rw (e, h)
+
+-- the place after a piece, and a buffer that is as long as before
+pub after-put : {d d′ vs : List ℕ} {at r n : ℕ} → length vs ≡ n → Put d d′ at r vs → (r ≡ at + n) × (length d′ ≡ length d)
+after-put e p = (omega (arith, p .ends, e), put-length p)
+
+-- the last of the pieces that are joined
+pub put-only : {d d′ vs : List ℕ} {at r : ℕ} → Put d d′ at r vs → Put d d′ at r (vs ++ [])
+put-only {vs = vs} p = put-as p (sym (append-nil vs))

@@ -1,0 +1,82 @@
+-- Four lines.
+use native.Mathlib.Omega.{arith}
+use mir.Syntax.{w32}
+use mir.Val.{SFits}
+use Rattle.rules.specs.Vocabulary.{joined}
+use Rattle.laws.specs.Buffers.{put-put, put-length}
+use Rattle.dst.proofs.Wide.{wide, wide-fits, wide-small}
+use Rattle.dst.proofs.Lines.{number-line, after-put, put-only}
+use borrow.Author.Needs.{needs}
+use Rattle.dst.proofs.put_bounds.Statement.{statement}
+use Rattle.dst.proofs.put_bounds.Tie as tie
+
+cast-size : tie.Need-cast-size
+cast-size c = let f : SFits w32 (c .before .before .before .args .b .max .x) = search needs in wide-fits f
+
+size-requires : tie.Need-size-requires
+size-requires c κs = let f : SFits w32 (c .before .before .before .args .b .max .x) = search needs in wide-small f
+
+put-number-requires : tie.Need-put-number-requires
+put-number-requires c κs = search needs
+
+cast-size-2 : tie.Need-cast-size-2
+cast-size-2 c = let f : SFits w32 (c .before .before .before .before .before .before .before .before .before .before .args .b .min .x) = search needs in wide-fits f
+
+size-requires-2 : tie.Need-size-requires-2
+size-requires-2 c κs = let f : SFits w32 (c .before .before .before .before .before .before .before .before .before .before .args .b .min .x) = search needs in wide-small f
+
+put-number-requires-2 : tie.Need-put-number-requires-2
+put-number-requires-2 c κs = (omega arith, omega (arith, after-put (number-line 0x2B 0x58 5 (c .before .before .before .before .before .before .before .before .size .result)) (c .before .before .before .before .before .before .put-number .ensures), c .before .before .before .before .before .before .before .before .before .before .before .before .pre))
+
+cast-size-3 : tie.Need-cast-size-3
+cast-size-3 c = let f : SFits w32 (c .before .before .before .before .before .before .before .before .before .before .before .before .before .before .before .before .before .args .b .max .y) = search needs in wide-fits f
+
+size-requires-3 : tie.Need-size-requires-3
+size-requires-3 c κs = let f : SFits w32 (c .before .before .before .before .before .before .before .before .before .before .before .before .before .before .before .before .before .args .b .max .y) = search needs in wide-small f
+
+put-number-requires-3 : tie.Need-put-number-requires-3
+put-number-requires-3 c κs = (omega arith, omega (arith, after-put (number-line 0x2B 0x58 5 (c .before .before .before .before .before .before .before .before .before .before .before .before .before .before .before .size .result)) (c .before .before .before .before .before .before .before .before .before .before .before .before .before .put-number .ensures), after-put (number-line 0x2D 0x58 5 (c .before .before .before .before .before .before .before .before .size2 .result)) (c .before .before .before .before .before .before .put-number2 .ensures), c .before .before .before .before .before .before .before .before .before .before .before .before .before .before .before .before .before .before .before .pre))
+
+cast-size-4 : tie.Need-cast-size-4
+cast-size-4 c = let f : SFits w32 (c .before .before .before .before .before .before .before .before .before .before .before .before .before .before .before .before .before .before .before .before .before .before .before .before .args .b .min .y) = search needs in wide-fits f
+
+size-requires-4 : tie.Need-size-requires-4
+size-requires-4 c κs = let f : SFits w32 (c .before .before .before .before .before .before .before .before .before .before .before .before .before .before .before .before .before .before .before .before .before .before .before .before .args .b .min .y) = search needs in wide-small f
+
+put-number-requires-4 : tie.Need-put-number-requires-4
+put-number-requires-4 c κs = (omega arith, omega (arith, after-put (number-line 0x2B 0x58 5 (c .before .before .before .before .before .before .before .before .before .before .before .before .before .before .before .before .before .before .before .before .before .before .size .result)) (c .before .before .before .before .before .before .before .before .before .before .before .before .before .before .before .before .before .before .before .before .put-number .ensures), after-put (number-line 0x2D 0x58 5 (c .before .before .before .before .before .before .before .before .before .before .before .before .before .before .before .size2 .result)) (c .before .before .before .before .before .before .before .before .before .before .before .before .before .put-number2 .ensures), after-put (number-line 0x2B 0x59 5 (c .before .before .before .before .before .before .before .before .size3 .result)) (c .before .before .before .before .before .before .put-number3 .ensures), c .before .before .before .before .before .before .before .before .before .before .before .before .before .before .before .before .before .before .before .before .before .before .before .before .before .before .pre))
+
+returns : tie.Need-returns
+unfolding joined
+returns c =
+    let b = c .before .before .before .before .before .before .before .before .before .before .before .before .before .before .before .before .before .before .before .before .before .before .before .before .before .before .before .before .before .args .b in
+    let f₁ : SFits w32 (b .max .x) = search needs in
+    let f₂ : SFits w32 (b .min .x) = search needs in
+    let f₃ : SFits w32 (b .max .y) = search needs in
+    let f₄ : SFits w32 (b .min .y) = search needs in
+    put-put (rw (c .before .before .before .before .before .before .before .before .before .before .before .before .before .before .before .before .before .before .before .before .before .before .before .before .before .size .ensures, wide f₁) at (c .before .before .before .before .before .before .before .before .before .before .before .before .before .before .before .before .before .before .before .before .before .before .before .put-number .ensures))
+    (put-put (rw (c .before .before .before .before .before .before .before .before .before .before .before .before .before .before .before .before .before .before .size2 .ensures, wide f₂) at (c .before .before .before .before .before .before .before .before .before .before .before .before .before .before .before .before .put-number2 .ensures))
+    (put-put (rw (c .before .before .before .before .before .before .before .before .before .before .before .size3 .ensures, wide f₃) at (c .before .before .before .before .before .before .before .before .before .put-number3 .ensures))
+    (put-only (rw (c .before .before .before .before .size4 .ensures, wide f₄) at (c .before .before .put-number4 .ensures)))))
+
+same-length : tie.Need-same-length
+same-length c = put-length (returns c)
+
+pub put-bounds-spec : {M : Type 1} → statement M
+put-bounds-spec =
+    tie.close
+    (tie.spec
+    cast-size
+    size-requires
+    put-number-requires
+    cast-size-2
+    size-requires-2
+    put-number-requires-2
+    cast-size-3
+    size-requires-3
+    put-number-requires-3
+    cast-size-4
+    size-requires-4
+    put-number-requires-4
+    same-length
+    returns)

@@ -1,0 +1,25 @@
+-- Two lines.
+use native.Mathlib.Omega.{arith}
+use Rattle.rules.specs.Vocabulary.{joined}
+use Rattle.laws.specs.Buffers.{put-put}
+use Rattle.dst.proofs.Lines.{number-line, after-put, put-only}
+use borrow.Author.Needs.{needs}
+use Rattle.dst.proofs.put_counts.Statement.{statement}
+use Rattle.dst.proofs.put_counts.Tie as tie
+
+put-number-requires : tie.Need-put-number-requires
+put-number-requires c κs = search needs
+
+put-number-requires-2 : tie.Need-put-number-requires-2
+put-number-requires-2 c κs = (omega arith, omega (arith, after-put (number-line 0x53 0x54 7 (c .before .before .before .before .before .before .args .records)) (c .before .before .before .put-number .ensures), c .before .before .before .before .before .before .pre))
+
+same-length : tie.Need-same-length
+same-length c = search needs
+
+returns : tie.Need-returns
+unfolding joined
+returns c = put-put (c .before .before .before .before .before .before .put-number .ensures) (put-only (c .before .before .put-number2 .ensures))
+
+pub put-counts-spec : {M : Type 1} → statement M
+put-counts-spec =
+    tie.close (tie.spec put-number-requires put-number-requires-2 same-length returns)

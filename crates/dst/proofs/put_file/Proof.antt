@@ -1,0 +1,42 @@
+-- Three parts.
+use native.Mathlib.Omega.{arith}
+use Prim.Native.Nat.{ℕ}
+use denote.Ref.{now}
+use lib.ListN.{length-replicate}
+use Rattle.rules.specs.Lists.{commands}
+use Rattle.laws.specs.Buffers.{put-put, put-as, put-length}
+use Rattle.dst.proofs.Whole.{length-text, file-is, length-file}
+use borrow.Author.Needs.{needs}
+use Rattle.dst.proofs.put_file.Statement.{statement}
+use Rattle.dst.proofs.put_file.Tie as tie
+
+put-text-of-requires : tie.Need-put-text-of-requires
+put-text-of-requires c κs =
+    let a = c .before .before .before .before .args in
+    let cs = commands (now (a .xs)) (now (a .ys)) (now (a .kinds)) in
+    (c .before .before .before .before .pre .0 .0, omega (arith, length-file (now (a .name)) cs, c .before .before .before .before .pre .1))
+
+put-times-requires : tie.Need-put-times-requires
+put-times-requires c κs =
+    let a = c .before .before .before .before .before .before .before .before .args in
+    let cs = commands (now (a .xs)) (now (a .ys)) (now (a .kinds)) in
+    omega (arith, length-file (now (a .name)) cs, length-text (now (a .name)) cs, c .before .before .before .put-text-of .ensures .ends, put-length (c .before .before .before .put-text-of .ensures), c .before .before .before .before .before .before .before .before .pre .1)
+
+put-stream-requires : tie.Need-put-stream-requires
+put-stream-requires c κs =
+    let a = c .before .before .before .before .before .before .before .before .before .before .before .before .args in
+    let cs = commands (now (a .xs)) (now (a .ys)) (now (a .kinds)) in
+    (c .before .before .before .before .before .before .before .before .before .before .before .before .pre .0 .1, omega (arith, length-file (now (a .name)) cs, length-text (now (a .name)) cs, c .before .before .before .before .before .before .before .put-text-of .ensures .ends, put-length (c .before .before .before .before .before .before .before .put-text-of .ensures), c .before .before .before .put-times .ensures .ends, put-length (c .before .before .before .put-times .ensures), length-replicate {A = ℕ} 387 0x20, c .before .before .before .before .before .before .before .before .before .before .before .before .pre .1))
+
+same-length : tie.Need-same-length
+same-length c = search needs
+
+returns : tie.Need-returns
+returns c =
+    let a = c .before .before .before .before .before .before .before .before .before .before .before .before .before .before .before .args in
+    put-as (put-put (c .before .before .before .before .before .before .before .before .before .before .put-text-of .ensures) (put-put (c .before .before .before .before .before .before .put-times .ensures) (c .before .before .put-stream .ensures))) (file-is (now (a .name)) (commands (now (a .xs)) (now (a .ys)) (now (a .kinds))))
+
+pub put-file-spec : {M : Type 1} → statement M
+put-file-spec =
+    tie.close
+    (tie.spec put-text-of-requires put-times-requires put-stream-requires same-length returns)

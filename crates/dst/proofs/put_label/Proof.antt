@@ -1,0 +1,27 @@
+-- A line in three parts.
+use native.Mathlib.Omega.{arith}
+use denote.Ref.{now}
+use Rattle.dst.proofs.Lines.{put-line, after-put}
+use Rattle.dst.proofs.Names.{length-name}
+use borrow.Author.Needs.{needs}
+use Rattle.dst.proofs.put_label.Statement.{statement}
+use Rattle.dst.proofs.put_label.Tie as tie
+
+put3-requires : tie.Need-put3-requires
+put3-requires c κs = search needs
+
+put-name-requires : tie.Need-put-name-requires
+put-name-requires c κs = search needs
+
+put-requires : tie.Need-put-requires
+put-requires c κs = omega (arith, after-put (length-name (now (c .before .before .before .before .before .before .before .before .before .before .before .args .name))) (c .before .before .before .put-name .ensures), c .before .before .before .before .before .before .before .put3 .ensures .ends, c .before .before .before .before .before .before .before .put3 .kept .0, c .before .before .before .before .before .before .before .before .before .before .before .pre)
+
+same-length : tie.Need-same-length
+same-length c = search needs
+
+returns : tie.Need-returns
+returns c = put-line (c .before .before .before .before .before .before .before .before .before .before .put3 .ensures) (c .before .before .before .before .before .before .put-name .ensures) (c .before .before .put .ensures)
+
+pub put-label-spec : {M : Type 1} → statement M
+put-label-spec =
+    tie.close (tie.spec put3-requires put-name-requires put-requires same-length returns)

@@ -1,0 +1,44 @@
+-- By the length of the file.
+use Rattle.encode.proofs.Lengths.{stream-most}
+use Rattle.rules.specs.declared.Format.the-variants.{Dst}
+use native.Mathlib.Omega.{arith}
+use denote.Ref.{now}
+use Rattle.rules.specs.Lists.{commands}
+use Rattle.emit.proofs.Writes.{written, unwritten}
+use Rattle.dst.proofs.Whole.{length-file}
+use borrow.Author.Needs.{needs}
+use Rattle.dst.proofs.write_accepted.Statement.{statement}
+use Rattle.dst.proofs.write_accepted.Tie as tie
+
+stream-len-requires : tie.Need-stream-len-requires
+stream-len-requires c κs = search needs
+
+add-n : tie.Need-add-n
+add-n c =
+    let a = c .before .before .before .before .args in
+    omega (arith, c .stream-len .ensures, stream-most Dst (now (a .xs)) (now (a .ys)) (now (a .kinds)), c .before .before .before .before .pre .0)
+
+returns : tie.Need-returns
+returns c =
+    let a = c .before .before .before .before .before .args in
+    let cs = commands (now (a .xs)) (now (a .ys)) (now (a .kinds)) in
+    unwritten (omega (arith, length-file (now (a .name)) cs, c .before .stream-len .ensures, c .if1 .taken))
+
+put-file-requires : tie.Need-put-file-requires
+put-file-requires c κs =
+    let a = c .before .before .before .before .before .before .args in
+    let cs = commands (now (a .xs)) (now (a .ys)) (now (a .kinds)) in
+    (c .before .before .before .before .before .before .pre, omega (arith, length-file (now (a .name)) cs, c .before .before .stream-len .ensures, c .before .if1 .left))
+
+same-length : tie.Need-same-length
+same-length c = search needs
+
+returns-2 : tie.Need-returns-2
+returns-2 c =
+    let a = c .before .before .before .before .before .before .before .before .before .args in
+    let cs = commands (now (a .xs)) (now (a .ys)) (now (a .kinds)) in
+    written (omega (arith, length-file (now (a .name)) cs, c .before .before .before .before .before .stream-len .ensures, c .before .before .before .before .if1 .left)) (c .before .before .put-file .ensures)
+
+pub write-accepted-spec : {M : Type 1} → statement M
+write-accepted-spec =
+    tie.close (tie.spec stream-len-requires add-n returns put-file-requires same-length returns-2)

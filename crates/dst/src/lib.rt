@@ -1,0 +1,246 @@
+// DST: the header, and whole files.
+use checks::check_list;
+use checks::color_changes;
+use emit::put;
+use emit::put_right;
+use emit::put_times;
+use emit::put2;
+use emit::put3;
+use emit::size;
+use encode::put_stream;
+use encode::stream_len;
+use formats::list_len;
+use formats::op_of;
+use formats::stream_bounds;
+use geom::Bounds;
+use rules::Format;
+use rules::Op;
+use rules::Refusal;
+use rules::Verdict;
+use rules::WriteAnswer;
+ghost use mathlib.Core.Path.{_≡_};
+ghost use mathlib.Core.Bool.{_&&_, false};
+ghost use Prim.Native.Nat.{_+_, _-_, _≤_};
+ghost use lib.Dec.{leb, ltb, eqb};
+ghost use lib.IntN.{pos, natAbs};
+ghost use lib.ListN.{length, getD};
+ghost use lib.Signed.{nonNeg};
+ghost use Rattle.rules.specs.Vocabulary.{pick, count, padded, right};
+ghost use Rattle.rules.specs.Lists.{commands, opOf, isTrim, dstName};
+ghost use Rattle.rules.specs.Dst.{line, signedRight, dstText, dstFile};
+ghost use Rattle.rules.specs.Files.{writeVerdict, writeAnswer, filled, fileOf};
+ghost use Rattle.rules.specs.Refusals.{stepTooLong};
+ghost use Rattle.rules.specs.declared.Extension.the-variants.{Of};
+ghost use Rattle.rules.specs.declared.Format.the-variants.{Dst};
+ghost use Rattle.laws.specs.Buffers.{Put};
+ghost use Rattle.emit.specs.Answered.{Answered};
+ghost use Rattle.dst.specs.Lines.{trimming, countsText, boundsText, lastText, endText};
+
+// Bytes of a name that stay: ASCII without its controls.
+fn stays(b: u8) -> bool
+    ensures { λ r. ⌜ r ≡ (leb 0x20 b && ltb b 0x7F) ⌝ }
+{
+    if b < 0x20 {
+        return false;
+    }
+    b < 0x7F
+}
+
+// The name in 16 bytes: those that stay, then blanks.
+fn put_name(name: &[u8], out: &mut [u8], at: usize) -> usize
+    requires { ⌜ at + 16 ≤ length (now out) ⌝ }
+    ensures { λ r. ⌜ Put (now (out .entry)) (now (out .exit)) at r (padded 16 (dstName (now (name .entry)))) ⌝ }
+{
+    let mut left: usize = 16;
+    let mut to = at;
+    let mut i = 0;
+    while i < name.len() {
+        if left == 0 {
+            return to;
+        }
+        let b = name[i];
+        i += 1;
+        if !stays(b) {
+            continue;
+        }
+        to = put(out, to, b);
+        left -= 1;
+    }
+    put_times(out, to, 0x20, left)
+}
+
+fn sign_of(z: i64) -> u8
+    ensures { λ r. ⌜ r ≡ pick (nonNeg z) 0x2B 0x2D ⌝ }
+{
+    if z < 0 {
+        return 0x2D;
+    }
+    0x2B
+}
+
+// A line of two characters and a number in n columns.
+fn put_number(a: u8, b: u8, n: usize, v: u32, out: &mut [u8], at: usize) -> usize
+    requires { ⌜ (n ≤ 10) × (at + (n + 4) ≤ length (now out)) ⌝ }
+    ensures { λ r. ⌜ Put (now (out .entry)) (now (out .exit)) at r (line a b (right n v)) ⌝ }
+{
+    let text = put3(out, at, a, b, 0x3A);
+    let end = put_right(out, text, n, v);
+    put(out, end, 0x0D)
+}
+
+// A line of two characters, a sign and a number in five columns.
+fn put_signed(a: u8, b: u8, z: i64, out: &mut [u8], at: usize) -> usize
+    requires { ⌜ natAbs z ≤ 4294967295 ⌝ }
+    requires { ⌜ at + 10 ≤ length (now out) ⌝ }
+    ensures { λ r. ⌜ Put (now (out .entry)) (now (out .exit)) at r (line a b (signedRight z)) ⌝ }
+{
+    let sign = put3(out, at, a, b, 0x3A);
+    let text = put(out, sign, sign_of(z));
+    let end = put_right(out, text, 5, size(z));
+    put(out, end, 0x0D)
+}
+
+// `LA:`, the label.
+fn put_label(name: &[u8], out: &mut [u8], at: usize) -> usize
+    requires { ⌜ at + 20 ≤ length (now out) ⌝ }
+    ensures { λ r. ⌜ Put (now (out .entry)) (now (out .exit)) at r (line 0x4C 0x41 (padded 16 (dstName (now (name .entry))))) ⌝ }
+{
+    let text = put3(out, at, 0x4C, 0x41, 0x3A);
+    let end = put_name(name, out, text);
+    put(out, end, 0x0D)
+}
+
+// `ST:` and `CO:`, records and colour changes.
+fn put_counts(records: u32, colors: u32, out: &mut [u8], at: usize) -> usize
+    requires { ⌜ at + 18 ≤ length (now out) ⌝ }
+    ensures { λ r. ⌜ Put (now (out .entry)) (now (out .exit)) at r (countsText records colors) ⌝ }
+{
+    let next = put_number(0x53, 0x54, 7, records, out, at);
+    put_number(0x43, 0x4F, 3, colors, out, next)
+}
+
+// `+X:`, `-X:`, `+Y:`, `-Y:`, the bounds.
+fn put_bounds(b: Bounds, out: &mut [u8], at: usize) -> usize
+    requires { ⌜ at + 36 ≤ length (now out) ⌝ }
+    ensures { λ r. ⌜ Put (now (out .entry)) (now (out .exit)) at r (boundsText (b .max .x) (b .min .x) (b .max .y) (b .min .y)) ⌝ }
+{
+    let second = put_number(0x2B, 0x58, 5, size(b.max.x as i64), out, at);
+    let third = put_number(0x2D, 0x58, 5, size(b.min.x as i64), out, second);
+    let fourth = put_number(0x2B, 0x59, 5, size(b.max.y as i64), out, third);
+    put_number(0x2D, 0x59, 5, size(b.min.y as i64), out, fourth)
+}
+
+// `AX:`, `AY:`, the last place, and `MX:`, `MY:`, both 0.
+fn put_last(x: i32, y: i32, out: &mut [u8], at: usize) -> usize
+    requires { ⌜ at + 40 ≤ length (now out) ⌝ }
+    ensures { λ r. ⌜ Put (now (out .entry)) (now (out .exit)) at r (lastText x y) ⌝ }
+{
+    let second = put_signed(0x41, 0x58, x as i64, out, at);
+    let third = put_signed(0x41, 0x59, 0 - (y as i64), out, second);
+    let fourth = put_signed(0x4D, 0x58, 0, out, third);
+    put_signed(0x4D, 0x59, 0, out, fourth)
+}
+
+// `PD:`, and the end of the text.
+fn put_end(out: &mut [u8], at: usize) -> usize
+    requires { ⌜ at + 11 ≤ length (now out) ⌝ }
+    ensures { λ r. ⌜ Put (now (out .entry)) (now (out .exit)) at r endText ⌝ }
+{
+    let text = put3(out, at, 0x50, 0x44, 0x3A);
+    let end = put_times(out, text, 0x2A, 6);
+    put2(out, end, 0x0D, 0x1A)
+}
+
+fn is_trim(kind: u8) -> bool
+    ensures { λ r. ⌜ r ≡ isTrim (opOf kind) ⌝ }
+{
+    let op = op_of(kind);
+    match op {
+        Op::Trim => true,
+        Op::Stitch | Op::Jump | Op::ColorChange | Op::End => false,
+    }
+}
+
+// How many commands trim.
+fn trims(xs: &[i32], ys: &[i32], kinds: &[u8]) -> usize
+    ensures { λ r. ⌜ (r ≡ count trimming (commands (now (xs .entry)) (now (ys .entry)) (now (kinds .entry)))) × (r ≤ length (now (kinds .entry))) ⌝ }
+{
+    let n = list_len(xs, ys, kinds);
+    let mut found = 0;
+    let mut i = 0;
+    while i < n {
+        if is_trim(kinds[i]) {
+            found += 1;
+        }
+        i += 1;
+    }
+    found
+}
+
+// The last of n places on one axis; 0 where there is none.
+fn last(zs: &[i32], n: usize) -> i32
+    requires { ⌜ n ≤ length (now zs) ⌝ }
+    ensures { λ r. ⌜ r ≡ pick (eqb n 0) (pos 0) (getD (now (zs .entry)) (n - 1) (pos 0)) ⌝ }
+{
+    if n == 0 {
+        return 0;
+    }
+    zs[n - 1]
+}
+
+// The 125 bytes of text.
+fn put_text_of(name: &[u8], xs: &[i32], ys: &[i32], kinds: &[u8], out: &mut [u8]) -> usize
+    requires { ⌜ (length (now kinds) ≤ 65535) × (125 ≤ length (now out)) ⌝ }
+    ensures { λ r. ⌜ Put (now (out .entry)) (now (out .exit)) 0 r (dstText (now (name .entry)) (commands (now (xs .entry)) (now (ys .entry)) (now (kinds .entry)))) ⌝ }
+{
+    let n = list_len(xs, ys, kinds);
+    let records = n + 2 * trims(xs, ys, kinds);
+    let colors = color_changes(xs, ys, kinds);
+    let second = put_label(name, out, 0);
+    let third = put_counts(records as u32, colors as u32, out, second);
+    let fourth = put_bounds(stream_bounds(xs, ys, kinds), out, third);
+    let fifth = put_last(last(xs, n), last(ys, n), out, fourth);
+    put_end(out, fifth)
+}
+
+// A whole file: the text, blanks up to 512, the records.
+fn put_file(name: &[u8], xs: &[i32], ys: &[i32], kinds: &[u8], out: &mut [u8]) -> usize
+    requires { ⌜ (length (now kinds) ≤ 65535) × (stepTooLong Dst (commands (now xs) (now ys) (now kinds)) ≡ false) ⌝ }
+    requires { ⌜ length (dstFile (now name) (commands (now xs) (now ys) (now kinds))) ≤ length (now out) ⌝ }
+    ensures { λ r. ⌜ Put (now (out .entry)) (now (out .exit)) 0 r (dstFile (now (name .entry)) (commands (now (xs .entry)) (now (ys .entry)) (now (kinds .entry)))) ⌝ }
+{
+    let blanks = put_text_of(name, xs, ys, kinds, out);
+    let records = put_times(out, blanks, 0x20, 387);
+    put_stream(Format::Dst, xs, ys, kinds, out, records)
+}
+
+// The file, or refusal 11.
+fn write_accepted(name: &[u8], xs: &[i32], ys: &[i32], kinds: &[u8], out: &mut [u8]) -> WriteAnswer
+    requires { ⌜ (length (now kinds) ≤ 65535) × (stepTooLong Dst (commands (now xs) (now ys) (now kinds)) ≡ false) ⌝ }
+    ensures { λ r. ⌜ Answered (dstFile (now (name .entry)) (commands (now (xs .entry)) (now (ys .entry)) (now (kinds .entry)))) (now (out .entry)) (now (out .exit)) r ⌝ }
+{
+    let n = 512 + stream_len(Format::Dst, xs, ys, kinds);
+    if out.len() < n {
+        return WriteAnswer::Unwritten(Refusal::BufferTooShort);
+    }
+    WriteAnswer::Written(put_file(name, xs, ys, kinds, out))
+}
+
+// Writes a list as a DST file to the front of the buffer: its length; or why it is refused, and the buffer as it was.
+pub fn dst_from_stream(
+    name: &[u8],
+    xs: &[i32],
+    ys: &[i32],
+    kinds: &[u8],
+    threads: &[u8],
+    out: &mut [u8],
+) -> WriteAnswer
+    ensures { λ r. ⌜ r ≡ writeAnswer (writeVerdict (Of Dst) (now (name .entry)) (now (xs .entry)) (now (ys .entry)) (now (kinds .entry)) (now (threads .entry)) (length (now (out .entry)))) (length (fileOf Dst (now (name .entry)) (commands (now (xs .entry)) (now (ys .entry)) (now (kinds .entry))) (now (threads .entry)))) ⌝ }
+    ensures { λ _. ⌜ now (out .exit) ≡ filled (writeVerdict (Of Dst) (now (name .entry)) (now (xs .entry)) (now (ys .entry)) (now (kinds .entry)) (now (threads .entry)) (length (now (out .entry)))) (fileOf Dst (now (name .entry)) (commands (now (xs .entry)) (now (ys .entry)) (now (kinds .entry))) (now (threads .entry))) (now (out .entry)) ⌝ }
+{
+    let checked = check_list(Format::Dst, xs, ys, kinds, threads);
+    match checked {
+        Verdict::Accepted => write_accepted(name, xs, ys, kinds, out),
+        Verdict::Refused(why) => WriteAnswer::Unwritten(why),
+    }
+}

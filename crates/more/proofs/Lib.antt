@@ -1,0 +1,5 @@
+pub mod Words
+pub mod Hoops
+pub mod Parts
+pub mod Sizes
+pub mod Files

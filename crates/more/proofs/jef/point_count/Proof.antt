@@ -1,0 +1,90 @@
+-- The count for the list, and one, is what was counted and the count for the commands that are left.
+use Prim.Native.Nat.{ℕ, _+_, _-_, _*_, _≤_, _<_}
+use mathlib.Core.Path.{_≡_}
+use mathlib.Core.List.{List}
+use native.Mathlib.Omega.{arith}
+use denote.Ref.{now}
+use lib.IntN.{ℤ}
+use lib.ListN.{length, getD, drop}
+use Rattle.rules.specs.declared.Op.{Op}
+use Rattle.rules.specs.Jef.{pointsIn, pointCount}
+use Rattle.rules.specs.Lists.{opOf, commands}
+use Rattle.laws.specs.Listing.{length-commands, commands-more, list-end}
+use Rattle.more.proofs.jef.point_count.Statement.{statement}
+use Rattle.more.proofs.jef.point_count.Tie as tie
+
+module _ (xs ys : List ℤ) (ks : List ℕ) (i : ℕ) where
+  -- one more command, whose points are p
+  points-more : i < length (commands xs ys ks) → {o : Op} {p : ℕ} → o ≡ opOf (getD ks i 0) → p ≡ pointsIn o
+      → pointCount (drop i (commands xs ys ks)) ≡ p + pointCount (drop (i + 1) (commands xs ys ks))
+  unfolding pointCount
+  points-more h e f = rw (commands-more xs ys ks i h, f, e)
+
+  points-end : length (commands xs ys ks) ≤ i → pointCount (drop i (commands xs ys ks)) ≡ 1
+  unfolding pointCount
+  points-end h = rw (list-end (commands xs ys ks) i h)
+
+abbrev Inv-loop : tie.InvT-loop
+Inv-loop xs ys kinds n total₀ i₀ total i =
+    (n ≡ length (commands xs ys kinds))
+    × ((n ≤ length kinds)
+    × ((total ≤ 1 + 2 * i)
+    × (pointCount (commands xs ys kinds) + 1 ≡ total + pointCount (drop i (commands xs ys kinds)))))
+
+abbrev μ-loop : tie.MeasureT-loop
+μ-loop xs ys kinds n total₀ i₀ total i = n - i
+
+list-len-requires : tie.Need-list-len-requires Inv-loop μ-loop
+list-len-requires c κs = tt
+
+loop-holds : tie.Need-loop-holds Inv-loop μ-loop
+loop-holds c =
+    let a = c .before .before .args in
+    (c .list-len .ensures, (omega (arith, c .list-len .ensures, length-commands (now (a .xs)) (now (a .ys)) (now (a .kinds))), (omega arith, omega arith)))
+
+shared-slice-read-op-of : tie.Need-shared-slice-read-op-of Inv-loop μ-loop
+shared-slice-read-op-of c = omega arith
+
+op-of-requires : tie.Need-op-of-requires Inv-loop μ-loop
+op-of-requires c κs = tt
+
+points-in-requires : tie.Need-points-in-requires Inv-loop μ-loop
+points-in-requires c κs = tt
+
+add-total : tie.Need-add-total Inv-loop μ-loop
+add-total c = omega (arith, c .points-in .ensures .1, c .before .before .before .before .before .before .before .pre)
+
+add-i : tie.Need-add-i Inv-loop μ-loop
+add-i c = omega arith
+
+loop-less : tie.Need-loop-less Inv-loop μ-loop
+loop-less c = omega arith
+
+loop-again : tie.Need-loop-again Inv-loop μ-loop
+loop-again c =
+    let a = c .before .before .before .before .before .before .before .args in
+    let l = c .before .before .before .before .loop in
+    let p = c .points-in .ensures in
+    (l .inv .0, (l .inv .1 .0, (omega (arith, p .1), omega (arith, points-more (now (a .xs)) (now (a .ys)) (now (a .kinds)) (l .i) (omega arith) (c .before .op-of .ensures) (p .0)))))
+
+returns : tie.Need-returns Inv-loop μ-loop
+returns c =
+    let a = c .before .before .before .before .args in
+    omega (arith, points-end (now (a .xs)) (now (a .ys)) (now (a .kinds)) (c .before .loop .i) (omega arith))
+
+pub point-count-spec : {M : Type 1} → statement M
+point-count-spec =
+    tie.close
+    (tie.spec
+    Inv-loop
+    μ-loop
+    list-len-requires
+    loop-holds
+    shared-slice-read-op-of
+    op-of-requires
+    points-in-requires
+    add-total
+    add-i
+    loop-less
+    loop-again
+    returns)

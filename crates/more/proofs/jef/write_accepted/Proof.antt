@@ -1,0 +1,72 @@
+-- By the length of the file.
+use native.Mathlib.Omega.{arith}
+use denote.Ref.{now}
+use Rattle.rules.specs.Lists.{commands, threadsOf}
+use Rattle.rules.specs.declared.Format.the-variants.{Jef}
+use Rattle.encode.proofs.Lengths.{stream-most}
+use Rattle.emit.proofs.Writes.{written, unwritten}
+use Rattle.more.proofs.Files.{length-file}
+use Rattle.more.proofs.Parts.{length-header}
+use Rattle.more.proofs.Words.{length-table}
+use borrow.Author.Needs.{needs}
+use Rattle.more.proofs.jef.write_accepted.Statement.{statement}
+use Rattle.more.proofs.jef.write_accepted.Tie as tie
+
+table-len-requires : tie.Need-table-len-requires
+table-len-requires c κs = search needs
+
+mul-n : tie.Need-mul-n
+mul-n c =
+    let a = c .before .before .before .before .args in
+    omega (arith, c .table-len .ensures, length-table (now (a .threads)), c .before .before .before .before .pre)
+
+add-n : tie.Need-add-n
+add-n c =
+    let a = c .before .before .before .before .args in
+    omega (arith, c .table-len .ensures, length-table (now (a .threads)), c .before .before .before .before .pre)
+
+stream-len-requires : tie.Need-stream-len-requires
+stream-len-requires c κs = search needs
+
+add-n-2 : tie.Need-add-n-2
+add-n-2 c =
+    let a = c .before .before .before .before .before .args in
+    omega (arith, c .before .table-len .ensures, length-table (now (a .threads)), c .stream-len .ensures, stream-most Jef (now (a .xs)) (now (a .ys)) (now (a .kinds)), c .before .before .before .before .before .pre)
+
+returns : tie.Need-returns
+returns c =
+    let a = c .before .before .before .before .before .before .args in
+    let cs = commands (now (a .xs)) (now (a .ys)) (now (a .kinds)) in
+    let ts = threadsOf (now (a .threads)) in
+    unwritten (omega (arith, length-file cs ts, length-header cs ts, c .before .before .table-len .ensures, c .before .stream-len .ensures, c .if1 .taken))
+
+put-file-requires : tie.Need-put-file-requires
+put-file-requires c κs =
+    let a = c .before .before .before .before .before .before .before .args in
+    let cs = commands (now (a .xs)) (now (a .ys)) (now (a .kinds)) in
+    let ts = threadsOf (now (a .threads)) in
+    (c .before .before .before .before .before .before .before .pre, omega (arith, length-file cs ts, length-header cs ts, c .before .before .before .table-len .ensures, c .before .before .stream-len .ensures, c .before .if1 .left))
+
+same-length : tie.Need-same-length
+same-length c = search needs
+
+returns-2 : tie.Need-returns-2
+returns-2 c =
+    let a = c .before .before .before .before .before .before .before .before .before .before .args in
+    let cs = commands (now (a .xs)) (now (a .ys)) (now (a .kinds)) in
+    let ts = threadsOf (now (a .threads)) in
+    written (omega (arith, length-file cs ts, length-header cs ts, c .before .before .before .before .before .before .table-len .ensures, c .before .before .before .before .before .stream-len .ensures, c .before .before .before .before .if1 .left)) (c .before .before .put-file .ensures)
+
+pub write-accepted-spec : {M : Type 1} → statement M
+write-accepted-spec =
+    tie.close
+    (tie.spec
+    table-len-requires
+    mul-n
+    add-n
+    stream-len-requires
+    add-n-2
+    returns
+    put-file-requires
+    same-length
+    returns-2)

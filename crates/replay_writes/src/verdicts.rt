@@ -1,0 +1,116 @@
+// Whether the port writes a case as the Rust did.
+use super::buffers::mark;
+use super::buffers::stays;
+use super::buffers::unpack;
+use super::bytes::byte;
+use super::bytes::file_len;
+use super::bytes::from_list;
+use super::bytes::is_whole;
+use super::bytes::list_len;
+use super::bytes::name;
+use super::bytes::packed;
+use super::bytes::threads;
+use super::packbits::opens_to;
+use dst::dst_from_stream;
+use more::exp::write_exp;
+use more::jef::write_jef;
+use rules::Refusal;
+use rules::WriteAnswer;
+ghost use mathlib.Core.Path.{_≡_};
+ghost use Prim.Native.Nat.{_≤_};
+ghost use lib.ListN.{length};
+ghost use Rattle.replay_writes.specs.Room.{Roomy};
+
+pub enum Outcome {
+    Right,
+    Wrong,
+    Skipped,
+}
+
+// Formats 0 and 1, PES and PEC, are not written yet.
+fn has_writer(format: u8) -> bool {
+    2 <= format
+}
+
+// Writes the list of the case to a buffer that is marked first.
+fn write(case: &[u8], xs: &[i32], ys: &[i32], kinds: &[u8], out: &mut [u8]) -> WriteAnswer {
+    mark(out);
+    let format = byte(case, 0);
+    match format {
+        2 => dst_from_stream(name(case), xs, ys, kinds, threads(case), out),
+        3 => write_exp(xs, ys, kinds, threads(case), out),
+        4 => write_jef(xs, ys, kinds, threads(case), out),
+        _ => WriteAnswer::Unwritten(Refusal::UnknownExtension),
+    }
+}
+
+// The file is that of the case, n bytes, and bytes behind it stay.
+fn writes_same(case: &[u8], n: usize, xs: &[i32], ys: &[i32], kinds: &[u8], out: &mut [u8]) -> bool
+    requires { ⌜ n ≤ length (now out) ⌝ }
+{
+    let answer = write(case, xs, ys, kinds, out);
+    let WriteAnswer::Written(len) = answer else {
+        return false;
+    };
+    if len != n {
+        return false;
+    }
+    if !opens_to(packed(case), &out[..n]) {
+        return false;
+    }
+    stays(out, n)
+}
+
+// A buffer too short is refused, and stays.
+fn refuses(case: &[u8], xs: &[i32], ys: &[i32], kinds: &[u8], out: &mut [u8]) -> bool {
+    let answer = write(case, xs, ys, kinds, out);
+    let WriteAnswer::Unwritten(why) = answer else {
+        return false;
+    };
+    if checks::number(why) != 11 {
+        return false;
+    }
+    stays(out, 0)
+}
+
+// Writes to a buffer as long as the file, to one a byte longer, and to one a byte shorter.
+fn agrees(case: &[u8], xs: &[i32], ys: &[i32], kinds: &[u8], out: &mut [u8]) -> bool
+    requires { ⌜ 65536 ≡ length (now out) ⌝ }
+{
+    let n = file_len(case);
+    if !writes_same(case, n, xs, ys, kinds, &mut out[..n]) {
+        return false;
+    }
+    let longer = n + 1;
+    if !writes_same(case, n, xs, ys, kinds, &mut out[..longer]) {
+        return false;
+    }
+    if n == 0 {
+        return true;
+    }
+    let shorter = n - 1;
+    refuses(case, xs, ys, kinds, &mut out[..shorter])
+}
+
+pub fn judged(
+    case: &[u8],
+    xs: &mut [i32],
+    ys: &mut [i32],
+    kinds: &mut [u8],
+    out: &mut [u8],
+) -> Outcome
+    requires { ⌜ Roomy (now xs) (now ys) (now kinds) (now out) ⌝ }
+{
+    if !is_whole(case) {
+        return Outcome::Wrong;
+    }
+    if !has_writer(byte(case, 0)) {
+        return Outcome::Skipped;
+    }
+    let n = list_len(case);
+    unpack(from_list(case), n, xs, ys, kinds);
+    if agrees(case, &xs[..n], &ys[..n], &kinds[..n], out) {
+        return Outcome::Right;
+    }
+    Outcome::Wrong
+}
