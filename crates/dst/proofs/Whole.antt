@@ -1,12 +1,12 @@
 -- The whole file: 125 bytes of text, 387 blanks, the records. Assumes nothing.
 use Prim.Native.Nat.{ℕ, _+_, _-_}
-use mathlib.Core.Path.{_≡_, refl, sym, _∙_}
-use mathlib.Core.List.{List, [], _∷_, _++_, append-assoc}
+use mathlib.Core.Path.{_≡_}
+use mathlib.Core.List.{List, _++_, append-assoc}
 use native.Mathlib.Omega.{arith}
-use lib.IntN.{ℤ, pos, natAbs, negℤ}
+use lib.IntN.{pos, natAbs, negℤ}
 use lib.ListN.{length, replicate, length-append, length-replicate}
-use Rattle.rules.specs.Dst.{line, signedRight, dstText, dstFile, recordCount}
-use Rattle.rules.specs.Lists.{written, opOf, isChange, minX, minY, maxX, maxY, lastX, lastY, dstName}
+use Rattle.rules.specs.Dst.{dstText, dstFile, recordCount}
+use Rattle.rules.specs.Lists.{written, opOf, isChange, minX, minY, maxX, maxY, lastX, lastY}
 use Rattle.rules.specs.Vocabulary.{joined, padded, count}
 use Rattle.rules.specs.declared.Cmd.{Cmd}
 use Rattle.rules.specs.declared.Format.the-variants.{Dst}

@@ -1,7 +1,7 @@
 -- What a writer answers, from the checks of its list and the room for its file. Assumes nothing.
-use Prim.Native.Nat.{ℕ, _+_, _*_, _/_, _%_, _≤_, _<_}
+use Prim.Native.Nat.{ℕ, _/_, _%_, _≤_, _<_}
 use mathlib.Core.Path.{_≡_, refl, sym}
-use mathlib.Core.Bool.{Bool, true, false, not, _||_}
+use mathlib.Core.Bool.{Bool, true, false, not}
 use mathlib.Core.List.{List}
 use native.Mathlib.Omega.{arith}
 use borrow.Author.Tests.{lt-ltb, le-ltb, ltb-false, eqb-true}
@@ -9,9 +9,9 @@ use lib.Dec.{ltb, eqb}
 use lib.IntN.{ℤ}
 use lib.ListN.{length}
 use Rattle.rules.specs.Files.{fileOf, writeVerdict, writeAnswer, filled}
-use Rattle.rules.specs.Lists.{commands, endsOnce}
+use Rattle.rules.specs.Lists.{commands}
 use Rattle.rules.specs.Refusals.{badList, placeOutside, changes, tooMany, moved, stepTooLong, verdict, listRefusals, listVerdict}
-use Rattle.rules.specs.Vocabulary.{any, count}
+use Rattle.rules.specs.Vocabulary.{count}
 use Rattle.rules.specs.declared.Extension.the-variants.{Of}
 use Rattle.rules.specs.declared.Format.{Format}
 use Rattle.rules.specs.declared.Refusal.{Refusal}

@@ -1,7 +1,7 @@
 // Bytes, numbers and texts into a lent buffer: each function puts its bytes from `at` on and answers the place behind them.
 ghost use mathlib.Core.Path.{_≡_};
 ghost use mathlib.Core.List.{[], _∷_};
-ghost use Prim.Native.Nat.{_+_, _*_, _^_, _≤_, _<_};
+ghost use Prim.Native.Nat.{_+_, _≤_, _<_};
 ghost use lib.IntN.{natAbs};
 ghost use lib.ListN.{length, replicate};
 ghost use Rattle.rules.specs.Vocabulary.{little, digitAt, right};

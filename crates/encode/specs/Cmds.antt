@@ -9,7 +9,6 @@ use Rattle.rules.specs.Jef.{jefCmd}
 use Rattle.rules.specs.declared.Format.{Format}
 use Rattle.rules.specs.declared.Format.the-variants.{Pes, Pec, Dst, Exp, Jef}
 use Rattle.rules.specs.declared.Op.{Op}
-use Rattle.rules.specs.declared.Op.the-variants.{Stitch, Jump, Trim, ColorChange, End}
 
 abbrev pub cmdOf : Format → Op → ℤ → ℤ → List ℕ
 cmdOf Pes op dx dy = []

@@ -5,11 +5,10 @@ use mathlib.Core.List.{List, [], _∷_, map}
 use lib.IntN.{ℤ, pos, negsuc}
 use lib.ListN.{getD}
 use lib.Signed.{leZ, mag}
-use Rattle.rules.specs.Vocabulary.{pick}
 use Rattle.rules.specs.Lists.{minZ, maxZ, leastFrom, greatestFrom, least, greatest, minX, minY, maxX, maxY}
 use Rattle.rules.specs.declared.Cmd.{Cmd}
 use Rattle.laws.specs.Tests.{by-test}
-use Rattle.laws.specs.Ints.{up, dn, parts, le-true, le-false, mag-is, one0}
+use Rattle.laws.specs.Ints.{parts, le-true, le-false, mag-is, one0}
 use native.Mathlib.Omega.{arith}
 use Rattle.geom.specs.Frames.{place, frame, nothing, added, boundsOf}
 use Rattle.geom.specs.declared.Bounds.{Bounds}

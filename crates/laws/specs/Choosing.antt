@@ -8,17 +8,17 @@ use native.Mathlib.Nat.{le-refl, le-trans, lt-of-lt-of-le, le-of-suc-le-suc, not
 use native.Mathlib.Numerals.{add-one}
 use native.Mathlib.Omega.{arith}
 use borrow.Author.Count.{below-none, below-more}
-use borrow.Author.Tests.{leb-true, leb-false, ltb-true, ltb-false, le-leb, lt-leb}
+use borrow.Author.Tests.{leb-true, leb-false, ltb-true, ltb-false, le-leb}
 use lib.Dec.{leb, ltb}
 use lib.ListN.{length, getD, drop, length-map}
-use Rattle.rules.specs.Vocabulary.{pick, all, firstWhere, lastWhere}
+use Rattle.rules.specs.Vocabulary.{pick}
 use Rattle.rules.specs.Choices.{distance, noNearer, nearest, nearestIndex, nearestFirst, choices}
 use Rattle.rules.specs.declared.Color.{Color}
 use Rattle.rules.specs.declared.Slot.{Slot}
 use Rattle.rules.specs.declared.Slot.the-variants.{Empty, Thread}
 use Rattle.rules.specs.declared.Found.{Found}
 use Rattle.rules.specs.declared.Found.the-variants.{At, Missing}
-use Rattle.laws.specs.Tests.{by-test, clash}
+use Rattle.laws.specs.Tests.{by-test}
 use Rattle.laws.specs.Listing.{list-more}
 use Rattle.laws.specs.Searches.{Where, before, after, Nowhere, all-from, all-at, first-is, first-none, last-is, last-none}
 

@@ -1,16 +1,14 @@
 -- JEF's thread table: every entry is one of 1 to 78, and two neighbours of different colour are never on one entry. Assumes nothing.
-use Prim.Native.Nat.{ℕ, zero, suc, _<_, _≤_}
+use Prim.Native.Nat.{ℕ, zero, suc, _<_}
 use mathlib.Core.Logic.{_≢_}
-use mathlib.Core.Path.{_≡_, refl, sym, ap, _∙_, subst}
-use mathlib.Core.Bool.{Bool, true, false, _&&_, not}
-use mathlib.Core.List.{List}
+use mathlib.Core.Path.{_≡_, refl, sym, _∙_, subst}
+use mathlib.Core.Bool.{false, _&&_, not}
 use native.Mathlib.Omega.{arith}
 use native.Mathlib.Decide.{ℕ-discrete}
-use borrow.Author.Tests.{eqb-true, eqb-false}
+use borrow.Author.Tests.{eqb-false}
 use lib.Dec.{eqb, lit<}
 use lib.ListN.{length, getD, set, length-set}
 use lib.Seq.{getD-set-same, getD-set-other}
-use Rattle.rules.specs.Vocabulary.{pick}
 use Rattle.rules.specs.Charts.{color, jefChart}
 use Rattle.rules.specs.Choices.{sameColor, nearestFirst, choices, jefPalette, entryOf, jefNearest, jefChoice}
 use Rattle.rules.specs.declared.Color.{Color}
@@ -21,7 +19,7 @@ use Rattle.rules.specs.declared.Found.the-variants.{At, Missing}
 use Rattle.rules.specs.declared.Previous.{Previous}
 use Rattle.rules.specs.declared.Previous.the-variants.{First, Entry}
 use Rattle.laws.specs.Tests.{by-test}
-use Rattle.laws.specs.Choosing.{Chosen, choice-law, choice-missing}
+use Rattle.laws.specs.Choosing.{choice-law, choice-missing}
 
 -- an entry of JEF's table, other than `skip`
 pub record JefEntry (skip k : ℕ) : Type 0 where

@@ -1,15 +1,14 @@
 -- Laws of tests over a list of any elements, told by index, and of the first and the last place that passes. Assumes nothing.
-use Prim.Native.Nat.{ℕ, zero, suc, _+_, _<_, _≤_, suc-le-suc}
-use mathlib.Core.Path.{_≡_, refl, sym, ap, _∙_}
-use mathlib.Core.Bool.{Bool, true, false, _&&_}
+use Prim.Native.Nat.{ℕ, zero, suc, _<_, suc-le-suc}
+use mathlib.Core.Path.{_≡_, refl}
+use mathlib.Core.Bool.{Bool, true, false}
 use mathlib.Core.List.{List, [], _∷_}
 use native.Mathlib.Nat.{le-of-suc-le-suc, not-suc-le-zero}
 use native.Mathlib.Omega.{arith}
 use lib.ListN.{length, getD}
-use Rattle.rules.specs.Vocabulary.{pick, all, next, firstWhere, orElse, lastWhere}
-use Rattle.rules.specs.declared.Found.{Found}
+use Rattle.rules.specs.Vocabulary.{all, next, firstWhere, orElse, lastWhere}
 use Rattle.rules.specs.declared.Found.the-variants.{At, Missing}
-use Rattle.laws.specs.Tests.{by-test, and-left, and-right}
+use Rattle.laws.specs.Tests.{and-left, and-right}
 
 -- The element at i passes the test, and those that beat it do not: those before it, or those after it.
 pub record Where {A : Type 0} (beats : ℕ → ℕ → Type 0) (p : A → Bool) (d : A) (xs : List A) (i : ℕ) : Type 0 where

@@ -1,6 +1,6 @@
 -- Two's complement at any width: `signed k` and `bitsOf k` of k + 1 bits. The range is `InBits k z` (Ints), which `omega ints` proves at a numeral k, as it does every bound on `up` and `dn`.
 -- Assumes nothing.
-use Prim.Native.Nat.{ℕ, zero, suc, _+_, _-_, _*_, _^_, _/_, _%_, _≤_, _<_}
+use Prim.Native.Nat.{ℕ, suc, _+_, _-_, _*_, _^_, _/_, _%_, _≤_, _<_}
 use mathlib.Core.Path.{_≡_, sym, ap, _∙_}
 use native.Mathlib.Omega.{arith}
 use native.Mathlib.Nat.{mod-eq-of-lt, mod-eq-sub-mod, mod-lt, suc-mul, add-mul, div-add-mod', div-lt-iff-lt-mul, lt-of-lt-of-le}

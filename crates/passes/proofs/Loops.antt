@@ -22,10 +22,10 @@ use Rattle.records.proofs.Formats.{Near, near, inside}
 use Rattle.records.proofs.Plains.{plain-is}
 use Rattle.records.specs.Fields.{lenOf, dxOf, dyOf}
 use Rattle.records.specs.Plain.{plainLen}
-use Rattle.passes.specs.Builders.{origin, some, followed, finished, placeAfter, placesBy, runsBy, blocksBy, Counted, Small, Reach, Holds}
+use Rattle.passes.specs.Builders.{origin, followed, finished, placeAfter, placesBy, runsBy, blocksBy, Counted, Small, Reach, Holds}
 use Rattle.passes.specs.Told.{placesIn, runsIn, blocksIn, Told, Fits}
 use Rattle.passes.specs.declared.builder.Builder.{Builder}
-use Rattle.passes.proofs.Parts.{run-cells, block-cells, sizes}
+use Rattle.passes.proofs.Parts.{run-cells, block-cells}
 use Rattle.passes.proofs.Turns.{placesLeft, runsLeft, blocksLeft, eventsAfter, moved, places-next, runs-next, blocks-next, points-by, runs-by, blocks-by, left-anywhere, any-colours, Bounded, bounded-next}
 
 -- the code's test that a number is not 0

@@ -1,5 +1,5 @@
 -- One record: the answers to come are what it adds and what comes after it; counts and places stay small. Assumes nothing.
-use Prim.Native.Nat.{ℕ, zero, suc, _+_, _*_, _≤_}
+use Prim.Native.Nat.{ℕ, suc, _+_, _*_, _≤_}
 use mathlib.Core.Path.{_≡_, refl, sym, _∙_}
 use mathlib.Core.List.{List, [], _∷_, _++_, append-assoc}
 use native.Mathlib.Numerals.{add-one}
@@ -12,7 +12,7 @@ use Rattle.rules.specs.declared.Record.{Record}
 use Rattle.rules.specs.declared.Record.the-variants.{StitchBy, JumpBy, ChangeBy, Finish}
 use Rattle.records.proofs.Formats.{Fair}
 use Rattle.records.specs.Fields.{lenOf, dxOf, dyOf}
-use Rattle.passes.specs.Builders.{some, added, followed, placeAfter, placesBy, runsBy, blocksBy}
+use Rattle.passes.specs.Builders.{some, followed, placeAfter, placesBy, runsBy, blocksBy}
 use Rattle.passes.specs.declared.builder.Builder.{Builder}
 use Rattle.passes.proofs.Parts.{run-cells, point-cells, block-cells, sizes}
 

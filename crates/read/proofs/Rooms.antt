@@ -1,18 +1,17 @@
 -- Refusal 11 by the counts, and what a call gives back with and without it. Assumes nothing.
-use Prim.Native.Nat.{ℕ, _+_, _*_, _≤_}
+use Prim.Native.Nat.{ℕ, _*_, _≤_}
 use mathlib.Core.Path.{_≡_, sym}
 use mathlib.Core.Bool.{true, false, _&&_}
 use mathlib.Core.List.{List}
 use native.Mathlib.Omega.{arith}
 use borrow.Author.Tests.{le-ltb, lt-ltb, leb-true, leb-false}
-use lib.Dec.{ltb, leb}
+use lib.Dec.{leb}
 use lib.IntN.{ℤ}
 use lib.ListN.{length}
 use Rattle.rules.specs.Answers.{pointTotal, blockTotal, cuts}
-use Rattle.rules.specs.Files.{firstOf, countsOf, readAnswer, filled}
+use Rattle.rules.specs.Files.{countsOf, readAnswer, filled}
 use Rattle.rules.specs.Refusals.{verdict}
 use Rattle.rules.specs.declared.Counts.{Counts}
-use Rattle.rules.specs.declared.Format.{Format}
 use Rattle.rules.specs.declared.ReadAnswer.the-variants.{Read, Unread}
 use Rattle.rules.specs.declared.Record.{Record}
 use Rattle.rules.specs.declared.Refusal.the-variants.{BufferTooShort}

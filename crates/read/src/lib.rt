@@ -18,15 +18,13 @@ use rules::ReadAnswer;
 use rules::Refusal;
 ghost use mathlib.Core.Path.{_≡_};
 ghost use mathlib.Core.Bool.{false};
-ghost use mathlib.Core.List.{_++_};
 ghost use Prim.Native.Nat.{_+_, _≤_, _<_};
 ghost use lib.ListN.{length, drop};
-ghost use Rattle.rules.specs.Files.{partStart, stitchBytes, pecColor, orDefault, colourOf, placesOf, runsOf, blocksOf, placesTold, runsTold, blocksTold, countsOf, tooShort, readVerdict, readAnswer, filled};
+ghost use Rattle.rules.specs.Files.{stitchBytes, pecColor, orDefault, colourOf, placesOf, runsOf, blocksOf, placesTold, runsTold, blocksTold, countsOf, readVerdict, readAnswer, filled};
 ghost use Rattle.rules.specs.Refusals.{extensionOf};
 ghost use Rattle.rules.specs.declared.Extension.the-variants.{Of};
 ghost use Rattle.rules.specs.declared.Format.the-variants.{Pec, Dst, Exp, Jef};
 ghost use Rattle.passes.specs.Colour.{colourIn};
-ghost use Rattle.passes.specs.Told.{Told, Fits};
 ghost use Rattle.read.specs.Answered.{Answered, Opened, roomFor};
 
 // Whether the answers fit: refusal 11 if not.

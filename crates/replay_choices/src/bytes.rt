@@ -1,5 +1,5 @@
 // Numbers in a case, the low byte first; 0 past the end.
-ghost use Prim.Native.Nat.{_≤_, _<_};
+ghost use Prim.Native.Nat.{_<_};
 use rules::Color;
 
 pub fn byte(s: &[u8], i: usize) -> u8 {

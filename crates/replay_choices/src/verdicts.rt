@@ -7,7 +7,7 @@ use geom::Bounds;
 use rules::Found;
 use rules::Previous;
 use rules::Slot;
-ghost use Prim.Native.Nat.{_≤_, _<_};
+ghost use Prim.Native.Nat.{_<_};
 
 pub fn agrees(case: &[u8], what: u8) -> bool {
     match what {

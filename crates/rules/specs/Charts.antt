@@ -1,6 +1,6 @@
 -- The charts of threads, and the blank thumbnail.
 use Prim.Native.Nat.{ℕ}
-use mathlib.Core.List.{List, [], _∷_, _++_}
+use mathlib.Core.List.{List, [], _∷_}
 use lib.ListN.{replicate}
 use Rattle.rules.specs.Vocabulary.{joined}
 use Rattle.rules.specs.declared.Color.{Color}

@@ -1,5 +1,5 @@
 -- PEC: label at 3, colour count less one at 48, stitches at 528.
-use Prim.Native.Nat.{ℕ, zero, suc, _+_, _-_, _*_, _/_, _%_}
+use Prim.Native.Nat.{ℕ, _+_, _-_, _*_, _/_, _%_}
 use mathlib.Core.Bool.{Bool, true, false, not, _&&_, _||_}
 use mathlib.Core.List.{List, [], _∷_, _++_, map}
 use lib.IntN.{ℤ, pos, negℤ, _-ℤ_}
@@ -7,7 +7,6 @@ use lib.Dec.{eqb, ltb}
 use lib.ListN.{length, drop, set, replicate}
 use Rattle.rules.specs.Vocabulary.{pick, eqZ, between, any, signed, bitsOf, little, joined, padded}
 use Rattle.rules.specs.Lists.{opOf, width, height, pecName}
-use Rattle.rules.specs.Charts.{pecChart}
 use Rattle.rules.specs.Choices.{sameColor, nearestIndex, pecPalette}
 use Rattle.rules.specs.Thumbnails.{icons}
 use Rattle.rules.specs.declared.Cmd.{Cmd}

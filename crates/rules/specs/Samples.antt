@@ -2,7 +2,7 @@
 use mathlib.Core.Path.{_≡_, refl}
 use mathlib.Core.List.{List, [], _∷_}
 use Prim.Native.Nat.{ℕ}
-use lib.IntN.{ℤ, pos, negℤ}
+use lib.IntN.{pos, negℤ}
 use Rattle.rules.specs.Vocabulary.{signed, bitsOf, between, all, next, orElse, lastWhere}
 use Rattle.rules.specs.Charts.{color, pecChart}
 use Rattle.rules.specs.Choices.{halfToEven, gap, weighed, distance, noNearer, nearest, nearestIndex, choices, pecPalette}

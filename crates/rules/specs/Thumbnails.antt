@@ -1,6 +1,6 @@
 -- Thumbnails: one for the whole, one per colour block, in f64 with each operation rounded as in `draw_scaled`.
 use Prim.Native.Nat.{ℕ, _+_, _-_, _*_, _/_, _%_, _^_}
-use mathlib.Core.Bool.{Bool, true, false, _&&_}
+use mathlib.Core.Bool.{true, false, _&&_}
 use mathlib.Core.List.{List, [], _∷_, _++_, map}
 use lib.IntN.{ℤ, pos, negsuc, negℤ}
 use lib.Dec.{ltb}

@@ -2,7 +2,7 @@
 use mathlib.Core.Path.{_≡_, refl}
 use mathlib.Core.List.{List, [], _∷_}
 use Prim.Native.Nat.{ℕ}
-use lib.IntN.{ℤ, pos, negsuc}
+use lib.IntN.{pos, negsuc}
 use lib.Ieee.{add, sub, mul, div, neg, lt, ofInt, ofBits, round, toBits}
 use lib.ListN.{replicate}
 use Rattle.rules.specs.Answers.{pointsAfter, startOf, places, runOf, runs, blockOf, begunAfter, blocks, pointTotal, blockTotal, cuts}

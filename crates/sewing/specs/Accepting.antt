@@ -1,26 +1,24 @@
 -- What acceptance says of the list of commands, one command after the other. Assumes nothing.
-use mathlib.Core.Path.{_≡_, refl, sym, _∙_, ap}
-use mathlib.Core.Bool.{Bool, true, false, not, _&&_, _||_}
+use mathlib.Core.Path.{_≡_}
+use mathlib.Core.Bool.{Bool, true, false, not, _&&_}
 use mathlib.Core.List.{List, [], _∷_}
-use Prim.Native.Nat.{ℕ, zero, suc, _+_, _≤_, _<_, _/_, _%_}
+use Prim.Native.Nat.{ℕ, zero, suc, _≤_}
 use native.Mathlib.Nat.{suc-inj}
 use native.Mathlib.Omega.{arith}
 use borrow.Author.Tests.{eqb-true, eqb-false, ltb-false, not-true, not-false}
 use lib.IntN.{ℤ, pos, _-ℤ_}
 use lib.Dec.{eqb, ltb}
 use lib.ListN.{length}
-use Rattle.rules.specs.Vocabulary.{pick, any, count}
+use Rattle.rules.specs.Vocabulary.{any}
 use Rattle.rules.specs.Lists.{opOf, commands, endsOnce, samePlace, stands, anyFrom, stepIn}
-use Rattle.rules.specs.Refusals.{badList, placeOutside, changes, tooMany, moves, moved, stepsPast, stepTooLong, verdict, listRefusals, listVerdict}
+use Rattle.rules.specs.Refusals.{badList, placeOutside, tooMany, moves, moved, stepsPast, stepTooLong, verdict, listRefusals, listVerdict}
 use Rattle.rules.specs.declared.Cmd.{Cmd}
 use Rattle.rules.specs.declared.Format.{Format}
 use Rattle.rules.specs.declared.Op.{Op}
 use Rattle.rules.specs.declared.Op.the-variants.{Stitch, Jump, Trim, ColorChange, End}
-use Rattle.rules.specs.declared.Refusal.{Refusal}
-use Rattle.rules.specs.declared.Verdict.{Verdict}
-use Rattle.rules.specs.declared.Verdict.the-variants.{Accepted, Refused}
+use Rattle.rules.specs.declared.Verdict.the-variants.{Accepted}
 use Rattle.laws.specs.Verdicts.{first-false}
-use Rattle.laws.specs.Tests.{by-test, false-true, clash, or-no-left, or-no-right, and-left, and-right, true-is}
+use Rattle.laws.specs.Tests.{or-no-left, or-no-right, and-left, and-right, true-is}
 
 -- none of 6 to 10 holds
 pub record Taken (f : Format) (xs ys : List ℤ) (kinds threads : List ℕ) : Type 0 where

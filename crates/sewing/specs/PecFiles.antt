@@ -1,16 +1,15 @@
 -- PEC and PES files: where the stitches stand, how long the parts are, and that they sew what the list sews and are not refused. Assumes nothing.
-use mathlib.Core.Path.{_≡_, refl, sym, _∙_, ap, ap₂}
-use mathlib.Core.Bool.{Bool, true, false, not, _&&_, _||_}
+use mathlib.Core.Path.{_≡_, refl, sym, _∙_, ap}
+use mathlib.Core.Bool.{Bool, true, false, not, _&&_}
 use mathlib.Core.List.{List, [], _∷_, _++_, append-assoc, append-nil, map}
-use Prim.Native.Nat.{ℕ, zero, suc, _+_, _-_, _*_, _/_, _%_, _^_, _≤_, _<_, min}
+use Prim.Native.Nat.{ℕ, zero, suc, _+_, _-_, _*_, _/_, _^_, _≤_, _<_}
 use native.Mathlib.Omega.{arith}
-use borrow.Author.Tests.{lt-ltb, le-ltb, lt-leb, ltb-true, eqb-true}
+use borrow.Author.Tests.{le-ltb, lt-leb, ltb-true}
 use lib.IntN.{ℤ, pos, negℤ, natAbs, _-ℤ_}
-use lib.Signed.{ltZ}
-use lib.Dec.{eqb, ltb, leb}
-use lib.ListN.{length, take, drop, set, getD, replicate, length-append, length-take, length-set, length-map, length-replicate}
+use lib.Dec.{eqb, ltb}
+use lib.ListN.{length, take, drop, set, length-append, length-take, length-set, length-map, length-replicate}
 use lib.Seq.{drop-at}
-use Rattle.rules.specs.Vocabulary.{pick, eqZ, between, count, sameBytes, signed, fromLittle, little, joined, padded, keep}
+use Rattle.rules.specs.Vocabulary.{eqZ, between, count, sameBytes, signed, fromLittle, little, joined, padded}
 use Rattle.rules.specs.Lists.{opOf, isChange, leastStep, greatestStep, stepIn, width, height, threadsOf, pecName, minX, minY, maxX, maxY}
 use Rattle.rules.specs.Refusals.{changes, verdict}
 use Rattle.rules.specs.Charts.{blankIcon}

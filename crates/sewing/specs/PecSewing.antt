@@ -1,25 +1,22 @@
 -- PEC's stitches, read, sew what the list sews, for any state of the writer and any bytes after the end that begin with 00. Assumes nothing.
 use mathlib.Core.Path.{_≡_, refl, sym, _∙_, ap, ap₂}
 use mathlib.Core.Logic.{_≢_}
-use mathlib.Core.Bool.{Bool, true, false, not, _&&_, _||_}
+use mathlib.Core.Bool.{Bool, true, false, not, _||_}
 use mathlib.Core.List.{List, [], _∷_, _++_, append-assoc}
-use Prim.Native.Nat.{ℕ, zero, suc, _+_, _*_, _/_, _%_, _^_, _≤_, _<_}
+use Prim.Native.Nat.{ℕ, suc, _+_, _*_, _/_, _%_, _≤_, _<_}
 use native.Mathlib.Omega.{arith}
 use borrow.Author.Tests.{lt-ltb, le-ltb, ne-eqb}
-use lib.IntN.{ℤ, pos, negℤ, _+ℤ_, _-ℤ_}
-use lib.Signed.{_≤ℤ_, _<ℤ_}
-use lib.Dec.{T, eqb, ltb, lit≤}
+use lib.IntN.{ℤ, pos, negℤ, _+ℤ_}
+use lib.Dec.{eqb, ltb, lit≤}
 use lib.ListN.{length, drop, length-drop}
 use lib.Seq.{drop-drop}
-use Rattle.rules.specs.Vocabulary.{pick, eqZ, between, signed, bitsOf}
-use Rattle.rules.specs.Lists.{opOf, leastStep, greatestStep, stepIn}
-use Rattle.rules.specs.Records.{Event, stitch, jump, change, events}
-use Rattle.rules.specs.Pec.{Axis, axis, none, longAxis, axisOf, afterAxis, bothAxes, starts, pecChange, pecFirst, wide, pecValue, PecState, pause, pecCmd}
+use Rattle.rules.specs.Vocabulary.{pick, between, signed, bitsOf}
+use Rattle.rules.specs.Records.{stitch, jump, change, events}
+use Rattle.rules.specs.Pec.{Axis, axis, none, longAxis, axisOf, afterAxis, bothAxes, starts, pecChange, pecFirst, wide, pecValue, pause, pecCmd}
 use Rattle.rules.specs.Sewing.{entry}
-use Rattle.rules.specs.declared.Op.the-variants.{Stitch, Jump, Trim, ColorChange, End}
 use Rattle.rules.specs.declared.Record.{Record}
-use Rattle.rules.specs.declared.Record.the-variants.{StitchBy, JumpBy, ChangeBy, Finish}
-use Rattle.laws.specs.Tests.{and-left, and-right, pick-true, pick-false, by-test, and-no-left}
+use Rattle.rules.specs.declared.Record.the-variants.{StitchBy, JumpBy, Finish}
+use Rattle.laws.specs.Tests.{pick-true, pick-false, by-test, and-no-left}
 use Rattle.laws.specs.Ints.{InBits, ints, between-true}
 use Rattle.laws.specs.Twos.{bits-lt, signed-bits}
 use Rattle.laws.specs.Reading.{Within, Inside, within-pick, read-stitch, read-jump, read-change, read-finish}

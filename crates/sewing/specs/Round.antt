@@ -1,13 +1,13 @@
 -- The induction over the list, once for all formats: a format owes what each kind of command comes to. Assumes nothing.
 use mathlib.Core.Path.{_≡_, refl, sym, _∙_, ap, ap₂}
-use mathlib.Core.Bool.{Bool, true, false, _&&_}
+use mathlib.Core.Bool.{Bool, true}
 use mathlib.Core.List.{List, [], _∷_, _++_, append-assoc, append-nil}
-use Prim.Native.Nat.{ℕ, zero, suc}
+use Prim.Native.Nat.{ℕ, suc}
 use native.Mathlib.Omega.{arith}
 use lib.IntN.{ℤ, pos, _+ℤ_, _-ℤ_, +ℤ-comm, +ℤ-invr, -ℤ-+ℤ-cancel}
 use Rattle.rules.specs.Vocabulary.{eqZ}
 use Rattle.rules.specs.Lists.{opOf, samePlace}
-use Rattle.rules.specs.Records.{Event, events}
+use Rattle.rules.specs.Records.{events}
 use Rattle.rules.specs.Sewing.{Entry, entry, blockAfter, sewsCmd, sews}
 use Rattle.rules.specs.declared.Cmd.{Cmd}
 use Rattle.rules.specs.declared.Op.{Op}
@@ -15,7 +15,7 @@ use Rattle.rules.specs.declared.Op.the-variants.{Stitch, Jump, Trim, ColorChang
 use Rattle.rules.specs.declared.Record.{Record}
 use Rattle.laws.specs.Tests.{and-left, and-right}
 use Rattle.laws.specs.Ints.{eqz-true}
-use Rattle.sewing.specs.EventSewing.{eventSewing, sew-nil}
+use Rattle.sewing.specs.EventSewing.{eventSewing}
 use Rattle.sewing.specs.Accepting.{Goes, Good}
 
 -- the sewing of bytes, from block k and place (x, y)

@@ -1,32 +1,29 @@
 -- Demand 3 over the definitions: for every list accepted for a format, with any name and threads, the file that is written is not refused, and what is
 -- read of it sews what the list sews. Two lists, in one format or two, read back as equal sewings exactly when they sew the same. Assumes nothing.
-use mathlib.Core.Path.{_≡_, refl, sym, _∙_, ap}
+use mathlib.Core.Path.{_≡_, refl, sym, _∙_}
 use mathlib.Core.Logic.{_↔_}
-use mathlib.Core.Bool.{Bool, true, false, _||_}
-use mathlib.Core.List.{List, [], _∷_, _++_}
-use Prim.Native.Nat.{ℕ, zero, suc, _/_, _≤_}
+use mathlib.Core.List.{List, [], _∷_}
+use Prim.Native.Nat.{ℕ, _/_, _≤_}
 use native.Mathlib.Omega.{arith}
 use borrow.Author.Tests.{ltb-false, le-ltb}
 use lib.IntN.{ℤ, pos}
 use lib.Dec.{ltb}
 use lib.ListN.{length}
-use Rattle.rules.specs.Vocabulary.{pick, count}
+use Rattle.rules.specs.Vocabulary.{count}
 use Rattle.rules.specs.Lists.{commands, stepIn, threadsOf}
 use Rattle.rules.specs.Refusals.{changes, tooMany, verdict, listVerdict}
-use Rattle.rules.specs.Answers.{places, runs, blocks}
 use Rattle.rules.specs.Files.{fileOf, eventsOf, colourOf, placesOf, runsOf, blocksOf, fileRefusals, noRoom, fileVerdict, readVerdict}
 use Rattle.rules.specs.Sewing.{Entry, listSewing, fileSewing}
 use Rattle.rules.specs.declared.Cmd.{Cmd}
 use Rattle.rules.specs.declared.Extension.the-variants.{Of}
 use Rattle.rules.specs.declared.Format.{Format}
 use Rattle.rules.specs.declared.Format.the-variants.{Pes, Pec, Dst, Exp, Jef}
-use Rattle.rules.specs.declared.Refusal.{Refusal}
-use Rattle.rules.specs.declared.Verdict.the-variants.{Accepted, Refused}
+use Rattle.rules.specs.declared.Verdict.the-variants.{Accepted}
 use Rattle.laws.specs.Tests.{or-no-left, or-no-right}
 use Rattle.laws.specs.Listing.{length-commands}
 use Rattle.laws.specs.Verdicts.{verdict-on}
 use Rattle.sewing.specs.EventSewing.{eventSewing, answer-sewing}
-use Rattle.sewing.specs.Accepting.{Taken, taken, Good, Shape, shape-of, accepted-good}
+use Rattle.sewing.specs.Accepting.{Taken, taken, Good, shape-of, accepted-good}
 use Rattle.sewing.specs.DstSewing.{dst-sewing, dst-taken}
 use Rattle.sewing.specs.PairSewing.{exp-sewing, exp-taken, jef-sewing, jef-taken}
 use Rattle.sewing.specs.PecFiles.{Few, pec-sewing, pec-taken, pes-sewing, pes-taken}

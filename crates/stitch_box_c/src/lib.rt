@@ -4,10 +4,8 @@ use rules::Counts;
 use rules::ReadAnswer;
 ghost use mathlib.Core.Path.{_≡_};
 ghost use lib.ListN.{length};
-ghost use Prim.Native.Nat.{_≤_};
 ghost use Rattle.rules.specs.Files.{readNumber, readCounts};
-ghost use Rattle.rules.specs.Refusals.{extensionOf};
-ghost use Rattle.stitch_box_c.specs.Exports.{cellsOf, readOf, numberTold, countsTold, placesLeft, runsLeft, blocksLeft};
+ghost use Rattle.stitch_box_c.specs.Exports.{cellsOf, numberTold, countsTold, placesLeft, runsLeft, blocksLeft};
 
 // Puts points, runs, blocks and cuts.
 fn put_counts(c: Counts, counts: &mut [u32])
