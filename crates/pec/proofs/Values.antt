@@ -1,0 +1,52 @@
+-- Negated tests, a step of a stitch in one byte or in two, and how many bytes a stitch and a colour change take. Assumes nothing.
+use Prim.Native.Nat.{_+_, _≤_}
+use mathlib.Core.Path.{_≡_, refl, sym}
+use mathlib.Core.Bool.{Bool, true, false, not, _&&_}
+use mathlib.Core.List.{[], _∷_, _++_}
+use native.Mathlib.Omega.{arith}
+use lib.IntN.{ℤ, pos, negℤ, natAbs}
+use lib.ListN.{length, length-append}
+use Rattle.rules.specs.Vocabulary.{pick, eqZ, between, bitsOf}
+use Rattle.rules.specs.Pec.{wide, pecValue, PecState, pause, pecCmd}
+use Rattle.rules.specs.declared.Op.the-variants.{Stitch, ColorChange}
+use Rattle.laws.specs.Ints.{ints, abs-le, between-true}
+
+-- a negated test, undone
+pub un-not : (b : Bool) → not b ≡ true → b ≡ false
+un-not true e = sym e
+un-not false e = refl
+
+pub un-not-not : (b : Bool) → not b ≡ false → b ≡ true
+un-not-not true e = refl
+un-not-not false e = sym e
+
+-- what one byte holds
+abbrev pub short : ℤ → Bool
+short z = between (negℤ (pos 63)) (pos 62) z
+
+module _ (z : ℤ) where
+  pub one-byte : short z ≡ true → pecValue z ≡ bitsOf 6 z ∷ []
+  unfolding pecValue
+  one-byte e = rw e
+
+  pub two-bytes : short z ≡ false → pecValue z ≡ wide 0x80 z
+  unfolding pecValue
+  two-bytes e = rw e
+
+  pub short-abs : short z ≡ true → natAbs z ≤ 63
+  short-abs e = let p = between-true (negℤ (pos 63)) (pos 62) z e in abs-le z 63 (omega ints) (omega ints)
+
+-- ---- the bytes that a stitch and a colour change take
+
+module _ (s : PecState) (dx dy : ℤ) where
+  -- whether a stitch 00 00 comes first
+  abbrev pub first : Bool
+  first = s .jumped && (not (eqZ dx (pos 0)) && not (eqZ dy (pos 0)))
+
+  pub stitch-long : length (pecCmd s Stitch dx dy) ≡ length (pause first) + (length (pecValue dx) + length (pecValue dy))
+  unfolding pecCmd
+  stitch-long = omega (arith, length-append (pause first) (pecValue dx ++ pecValue dy), length-append (pecValue dx) (pecValue dy))
+
+  pub change-long : length (pecCmd s ColorChange dx dy) ≡ length (pause (s .jumped)) + 3
+  unfolding pecCmd
+  change-long = length-append (pause (s .jumped)) (0xFE ∷ 0xB0 ∷ pick (s .two) 0x02 0x01 ∷ [])

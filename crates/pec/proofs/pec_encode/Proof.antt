@@ -1,0 +1,177 @@
+-- What is written is as far as the place; what comes is what the commands left take, from the place of the last.
+use mathlib.Core.Path.{_≡_, ap, _∙_}
+use mathlib.Core.Bool.{false}
+use Prim.Native.Nat.{_-_, _<_}
+use native.Mathlib.Omega.{arith}
+use denote.Ref.{now}
+use lib.IntN.{pos, _-ℤ_}
+use lib.ListN.{length, drop}
+use mir.Syntax.{w32}
+use mir.Val.{toZ}
+use Rattle.rules.specs.Lists.{commands, anyFrom}
+use Rattle.rules.specs.Pec.{pecStart, pecNext, pecStitches}
+use Rattle.rules.specs.Refusals.{stepsPast, stepTooLong}
+use Rattle.rules.specs.declared.Format.the-variants.{Pec}
+use Rattle.laws.specs.Listing.{length-commands}
+use Rattle.laws.specs.Ints.{ret}
+use Rattle.pec.specs.States.{stateOf, Step}
+use Rattle.laws.specs.Buffers.{Writing, writing-start, writing-room, writing-more, writing-done}
+use Rattle.pec.proofs.Stream.{readAt, bytesAt, bytesAfter, no-bytes, next-bytes, next-step, next-near}
+use Rattle.pec.proofs.pec_encode.Statement.{statement}
+use Rattle.pec.proofs.pec_encode.Tie as tie
+
+abbrev Inv-loop : tie.InvT-loop
+Inv-loop xs ys kinds out₀ at n s₀ x₀ y₀ to₀ i₀ out s x y to i =
+    let cs = commands xs ys kinds in
+    (n ≡ length cs)
+    × (Writing out₀ at (pecStitches pecStart (pos 0) (pos 0) cs) out to (pecStitches (stateOf s) (toZ w32 x) (toZ w32 y) (drop i cs))
+    × (anyFrom (stepsPast Pec) (toZ w32 x) (toZ w32 y) (drop i cs) ≡ false))
+
+abbrev μ-loop : tie.MeasureT-loop
+μ-loop xs ys kinds out₀ at n s₀ x₀ y₀ to₀ i₀ out s x y to i = n - i
+
+list-len-requires : tie.Need-list-len-requires Inv-loop μ-loop
+list-len-requires c κs = tt
+
+start-requires : tie.Need-start-requires Inv-loop μ-loop
+start-requires c κs = tt
+
+loop-holds : tie.Need-loop-holds Inv-loop μ-loop
+unfolding stepTooLong
+loop-holds c =
+    let s = c .before .before .before .before in
+    let a = s .args in
+    let whole = pecStitches pecStart (pos 0) (pos 0) (commands (now (a .xs)) (now (a .ys)) (now (a .kinds))) in
+    (c .before .list-len .ensures, (rw (c .start .ensures) (writing-start (now (a .out)) (a .at) whole (s .pre .1)), s .pre .0))
+
+shared-slice-read-op-of : tie.Need-shared-slice-read-op-of Inv-loop μ-loop
+shared-slice-read-op-of c =
+    let a = c .before .before .before .before .before .before .before .args in
+    omega (arith, length-commands (now (a .xs)) (now (a .ys)) (now (a .kinds)))
+
+op-of-requires : tie.Need-op-of-requires Inv-loop μ-loop
+op-of-requires c κs = tt
+
+mul-nx : tie.Need-mul-nx Inv-loop μ-loop
+mul-nx c =
+    let a = c .before .before .before .before .before .before .before .before .args in
+    omega (arith, length-commands (now (a .xs)) (now (a .ys)) (now (a .kinds)))
+
+shared-slice-copy-out-nx : tie.Need-shared-slice-copy-out-nx Inv-loop μ-loop
+shared-slice-copy-out-nx c =
+    let a = c .before .before .before .before .before .before .before .before .args in
+    omega (arith, length-commands (now (a .xs)) (now (a .ys)) (now (a .kinds)))
+
+mul-ny : tie.Need-mul-ny Inv-loop μ-loop
+mul-ny c =
+    let a = c .before .before .before .before .before .before .before .before .before .args in
+    omega (arith, length-commands (now (a .xs)) (now (a .ys)) (now (a .kinds)))
+
+shared-slice-copy-out-ny : tie.Need-shared-slice-copy-out-ny Inv-loop μ-loop
+shared-slice-copy-out-ny c =
+    let a = c .before .before .before .before .before .before .before .before .before .args in
+    omega (arith, length-commands (now (a .xs)) (now (a .ys)) (now (a .kinds)))
+
+-- the step of a turn is small
+near : (c : tie.After-ny Inv-loop μ-loop)
+    → (let head = c .before .before .before .before .before in
+    let a = head .before .before .before .before .before .args in
+    let loop = head .loop in
+    Step (readAt (now (a .xs)) (loop .i) -ℤ toZ w32 (loop .x)) (readAt (now (a .ys)) (loop .i) -ℤ toZ w32 (loop .y)))
+near c =
+    let head = c .before .before .before .before .before in
+    let a = head .before .before .before .before .before .args in
+    let loop = head .loop in
+    next-step (now (a .xs)) (now (a .ys)) (now (a .kinds)) (loop .i) (stateOf (loop .s)) (toZ w32 (loop .x)) (toZ w32 (loop .y))
+    (omega arith) (c .before .nx .given) (c .ny .given) (loop .inv .1 .1)
+
+step-requires : tie.Need-step-requires Inv-loop μ-loop
+step-requires c κs = near c .x
+
+step-requires-2 : tie.Need-step-requires-2 Inv-loop μ-loop
+step-requires-2 c κs = near (c .before) .y
+
+put-cmd-requires : tie.Need-put-cmd-requires Inv-loop μ-loop
+put-cmd-requires c κs =
+    let a = c .before .before .before .before .before .before .before .before .before .before .before .before .before .args in
+    let loop = c .before .before .before .before .before .before .before .before .loop in
+    let x = toZ w32 (loop .x) in
+    let y = toZ w32 (loop .y) in
+    let s = stateOf (loop .s) in
+    let across = c .before .before .step in
+    let up = c .before .step2 in
+    let dx = ret w32 (across .result) (across .ok) ∙ across .ensures in
+    let dy = ret w32 (up .result) (up .ok) ∙ up .ensures in
+    let op = c .before .before .before .before .before .op-of .ensures in
+    let l : loop .i < length (commands (now (a .xs)) (now (a .ys)) (now (a .kinds))) = omega arith in
+    let ny = c .before .before .before in
+    let nx = ny .before in
+    let e = next-bytes (now (a .xs)) (now (a .ys)) (now (a .kinds)) (loop .i) s x y l (nx .nx .given) (ny .ny .given) in
+    let vs = bytesAt (now (a .xs)) (now (a .ys)) (now (a .kinds)) (loop .i) s x y in
+    let ws = bytesAfter (now (a .xs)) (now (a .ys)) (now (a .kinds)) (loop .i) s in
+    rw (dx, dy, op) (near ny, writing-room vs ws (loop .inv .1 .0) e)
+
+next-requires : tie.Need-next-requires Inv-loop μ-loop
+next-requires c κs = tt
+
+add-i : tie.Need-add-i Inv-loop μ-loop
+add-i c = omega arith
+
+loop-less : tie.Need-loop-less Inv-loop μ-loop
+loop-less c = omega arith
+
+loop-again : tie.Need-loop-again Inv-loop μ-loop
+loop-again c =
+    let a = c .before .before .before .before .before .before .before .before .before .before .before .before .before .before .before .before .before .args in
+    let loop = c .before .before .before .before .before .before .before .before .before .before .before .before .loop in
+    let x = toZ w32 (loop .x) in
+    let y = toZ w32 (loop .y) in
+    let s = stateOf (loop .s) in
+    let across = c .before .before .before .before .before .before .step in
+    let up = c .before .before .before .before .before .step2 in
+    let dx = ret w32 (across .result) (across .ok) ∙ across .ensures in
+    let dy = ret w32 (up .result) (up .ok) ∙ up .ensures in
+    let op = c .before .before .before .before .before .before .before .before .before .op-of .ensures in
+    let l : loop .i < length (commands (now (a .xs)) (now (a .ys)) (now (a .kinds))) = omega arith in
+    let ny = c .before .before .before .before .before .before .before in
+    let nx = ny .before in
+    let e = next-bytes (now (a .xs)) (now (a .ys)) (now (a .kinds)) (loop .i) s x y l (nx .nx .given) (ny .ny .given) in
+    let later = next-near (now (a .xs)) (now (a .ys)) (now (a .kinds)) (loop .i) s x y l (nx .nx .given) (ny .ny .given) (loop .inv .1 .1) in
+    let put = rw (dx, dy, op) at (c .before .before .before .put-cmd .ensures) in
+    let after = c .next .ensures ∙ ap (pecNext s) op in
+    (loop .inv .0, (rw after (writing-more (loop .inv .1 .0) e put), later))
+
+same-length : tie.Need-same-length Inv-loop μ-loop
+same-length c = c .before .loop .inv .1 .0 .same
+
+returns : tie.Need-returns Inv-loop μ-loop
+returns c =
+    let a = c .before .before .before .before .before .before .args in
+    let loop = c .before .loop in
+    let none = no-bytes (now (a .xs)) (now (a .ys)) (now (a .kinds)) (loop .i) (stateOf (loop .s)) (toZ w32 (loop .x)) (toZ w32 (loop .y)) (omega arith) in
+    writing-done (loop .inv .1 .0) none
+
+pub pec-encode-spec : {M : Type 1} → statement M
+pec-encode-spec =
+    tie.close
+    (tie.spec
+    Inv-loop
+    μ-loop
+    list-len-requires
+    start-requires
+    loop-holds
+    shared-slice-read-op-of
+    op-of-requires
+    mul-nx
+    shared-slice-copy-out-nx
+    mul-ny
+    shared-slice-copy-out-ny
+    step-requires
+    step-requires-2
+    put-cmd-requires
+    next-requires
+    add-i
+    loop-less
+    loop-again
+    same-length
+    returns)
