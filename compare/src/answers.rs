@@ -1,6 +1,6 @@
 //! The three fixed lists of answers: making them and checking them.
 
-use crate::bytes::{self, Cursor, put_i16, put_long, put_short, put_u16};
+use crate::bytes::{self, Cursor, put_i16, put_long, put_short, put_u16, put_u32};
 use crate::formats::{color_distance, nearest_index, pec_palette, stream_bounds};
 use crate::leaves::Leaf;
 use crate::oracle::{self, Answer, Block, Command, Format};
@@ -11,7 +11,7 @@ use std::{fmt, fs, io};
 /// Every random number of the lists comes from this.
 pub const SEED: u64 = 20_261_113;
 
-/// No case is longer, since its length stands in two bytes.
+/// No case and no file in one is longer, since their lengths stand in two bytes.
 const LONGEST_CASE: usize = 65_535;
 /// Bytes behind a length of one byte are no more than this.
 const LONGEST_SHORT: usize = 255;
@@ -212,13 +212,41 @@ fn writes() -> Vec<Vec<u8>> {
     }
     lists.sort_by_key(|(_, list)| list.cmds.len());
     let case = |(format, list): &(Format, lists::List)| {
-        write(*format, &list.name, &list.cmds, &list.threads)
+        let case = write(*format, &list.name, &list.cmds, &list.threads);
+        case.expect("a case that fits the layout")
     };
     lists.iter().map(case).collect()
 }
 
-/// A list with the file that the published Rust writes of it, as a case.
-pub fn write(format: Format, name: &[u8], cmds: &[Command], threads: &[[u8; 3]]) -> Vec<u8> {
+/// A list with the file that the published Rust writes of it, as a case; none
+/// if it does not fit the layout.
+pub fn write(
+    format: Format,
+    name: &[u8],
+    cmds: &[Command],
+    threads: &[[u8; 3]],
+) -> Option<Vec<u8>> {
+    let file = oracle::write(format, name, cmds, threads);
+    if file.len() > LONGEST_CASE {
+        return None;
+    }
+    let mut case = asked(format, name, cmds, threads);
+    put_u16(&mut case, file.len());
+    case.extend(bytes::pack(&file));
+    (case.len() <= LONGEST_CASE).then_some(case)
+}
+
+/// The same for any list, with the length of the file in four bytes.
+pub fn write_long(format: Format, name: &[u8], cmds: &[Command], threads: &[[u8; 3]]) -> Vec<u8> {
+    let file = oracle::write(format, name, cmds, threads);
+    let mut case = asked(format, name, cmds, threads);
+    put_u32(&mut case, file.len());
+    case.extend(bytes::pack(&file));
+    case
+}
+
+/// What a case asks: format, name, commands and threads.
+fn asked(format: Format, name: &[u8], cmds: &[Command], threads: &[[u8; 3]]) -> Vec<u8> {
     let mut case = vec![format as u8];
     put_short(&mut case, name);
     put_u16(&mut case, cmds.len());
@@ -229,9 +257,6 @@ pub fn write(format: Format, name: &[u8], cmds: &[Command], threads: &[[u8; 3]])
     }
     case.push(u8::try_from(threads.len()).expect("at most 255 threads"));
     case.extend(threads.as_flattened());
-    let file = oracle::write(format, name, cmds, threads);
-    put_u16(&mut case, file.len());
-    case.extend(bytes::pack(&file));
     case
 }
 
@@ -253,7 +278,8 @@ fn write_again(case: &[u8]) -> Option<Vec<u8>> {
     let sews = sewing::of_file(&reading.blocks) == sewing::of_list(&cmds);
     let opens = file.len() == usize::from(length);
     let accepted = lists::accepted(format, &cmds, &threads);
-    (accepted && opens && sews).then(|| write(format, name, &cmds, &threads))
+    let right = accepted && opens && sews;
+    right.then(|| write(format, name, &cmds, &threads))?
 }
 
 fn choice(leaf: &Leaf) -> Vec<u8> {

@@ -44,6 +44,11 @@ pub fn put_u16(out: &mut Vec<u8>, value: usize) {
     out.extend_from_slice(&value.to_le_bytes());
 }
 
+pub fn put_u32(out: &mut Vec<u8>, value: usize) {
+    let value = u32::try_from(value).expect("a number of 32 bits");
+    out.extend_from_slice(&value.to_le_bytes());
+}
+
 pub fn put_i16(out: &mut Vec<u8>, value: i32) {
     let value = i16::try_from(value).expect("a number of 16 bits");
     out.extend_from_slice(&value.to_le_bytes());

@@ -12,19 +12,22 @@ pub struct List {
 }
 
 /// Kind and step; trims and colour changes stand still.
-type Move = (u8, i32, i32);
+pub type Move = (u8, i32, i32);
 
-const STITCH: u8 = 0;
-const JUMP: u8 = 1;
-const TRIM: u8 = 2;
-const CHANGE: u8 = 3;
+pub const STITCH: u8 = 0;
+pub const JUMP: u8 = 1;
+pub const TRIM: u8 = 2;
+pub const CHANGE: u8 = 3;
 const END: u8 = 4;
 
 /// No place lies further out on either axis.
-const EDGE: i32 = 16_000;
+pub const EDGE: i32 = 16_000;
+
+/// No list has more colour changes.
+pub const CHANGES: usize = 254;
 
 /// Names of every kind, all in UTF-8.
-const NAMES: [&str; 12] = [
+pub const NAMES: [&str; 12] = [
     "",
     "a",
     "eight888",
@@ -41,6 +44,15 @@ const NAMES: [&str; 12] = [
 
 /// The lists of one format for the list of writes.
 pub fn all(format: Format, seed: u64) -> Vec<List> {
+    gathered(format, seed, |at| taken(format, at))
+}
+
+/// The same with every script in every format.
+pub fn every(format: Format, seed: u64) -> Vec<List> {
+    gathered(format, seed, |_| true)
+}
+
+fn gathered(format: Format, seed: u64, taken: impl Fn(usize) -> bool) -> Vec<List> {
     let mut random = Random::new(seed ^ format as u64);
     let mut scripts = kinds();
     scripts.extend(steps(format));
@@ -48,7 +60,7 @@ pub fn all(format: Format, seed: u64) -> Vec<List> {
     scripts.extend(sizes(format));
     let mut lists: Vec<List> = Vec::new();
     for (at, script) in scripts.iter().enumerate() {
-        if taken(format, at) {
+        if taken(at) {
             lists.push(list(NAMES[at % NAMES.len()], script, &mut random));
         }
     }
@@ -78,7 +90,7 @@ pub fn accepted(format: Format, cmds: &[Command], threads: &[[u8; 3]]) -> bool {
         }
     }
     let changes = cmds.iter().filter(|cmd| cmd.2 == CHANGE).count();
-    (1..=65_535).contains(&cmds.len()) && changes <= 254 && threads.len() <= 255
+    (1..=65_535).contains(&cmds.len()) && changes <= CHANGES && threads.len() <= 255
 }
 
 /// PES holds a PEC part, and thumbnails make both long: they share the
@@ -120,7 +132,8 @@ fn random_count(format: Format) -> usize {
     }
 }
 
-fn list(name: &str, script: &[Move], random: &mut Random) -> List {
+/// A script's list, with about as many threads as blocks.
+pub fn list(name: &str, script: &[Move], random: &mut Random) -> List {
     let changes = script.iter().filter(|step| step.0 == CHANGE).count();
     let count = match random.below(6) {
         0 => 0,
@@ -136,7 +149,7 @@ fn list(name: &str, script: &[Move], random: &mut Random) -> List {
 }
 
 /// The commands of a script, and an end.
-fn commands(script: &[Move]) -> Vec<Command> {
+pub fn commands(script: &[Move]) -> Vec<Command> {
     let (mut x, mut y) = (0, 0);
     let mut cmds = Vec::new();
     for &(kind, dx, dy) in script {
@@ -196,7 +209,7 @@ fn kinds() -> Vec<Vec<Move>> {
 }
 
 /// Steps at which some format's bytes change, within the format's limit.
-fn edges(format: Format) -> Vec<i32> {
+pub fn edges(format: Format) -> Vec<i32> {
     let steps = match format {
         Format::Pes | Format::Pec => vec![1, 62, 63, 64, 65, 127, 128, 129, 255, 256, 2046, 2047],
         Format::Dst => vec![1, 2, 4, 5, 13, 14, 40, 41, 120, 121],
@@ -291,7 +304,7 @@ fn reach(format: Format, x: i32, y: i32) -> Vec<Move> {
 }
 
 /// A random script; half of its steps are boundary ones.
-fn wander(format: Format, length: usize, random: &mut Random) -> Vec<Move> {
+pub fn wander(format: Format, length: usize, random: &mut Random) -> Vec<Move> {
     const KINDS: [u8; 12] = [0, 0, 0, 0, 0, 0, 0, 1, 1, 1, 2, 3];
     let edges = edges(format);
     let (least, greatest) = format.steps();
@@ -338,7 +351,7 @@ fn many_threads(random: &mut Random) -> Vec<List> {
 /// As many colour changes as a list may have; fewer in PES, where the file
 /// would be no different in kind and is long.
 fn many_changes(format: Format, random: &mut Random) -> List {
-    let count = if format == Format::Pes { 12 } else { 254 };
+    let count = if format == Format::Pes { 12 } else { CHANGES };
     let mut script = Vec::new();
     for at in 0..count {
         script.push((CHANGE, 0, 0));

@@ -9,7 +9,7 @@ use std::process::ExitCode;
 
 const USAGE: &str = "usage: compare samples | show EXT FILE | answers | check | \
     reads COUNT SEED FOLDER | \
-    writes COUNT SEED FOLDER | against COUNT SEED | bench [ROUNDS]";
+    writes COUNT SEED FOLDER | longs SEED FOLDER | against COUNT SEED | bench [ROUNDS]";
 
 fn main() -> ExitCode {
     let words: Vec<OsString> = env::args_os().skip(1).collect();
@@ -21,6 +21,7 @@ fn main() -> ExitCode {
         (Some("check"), 1) => answers::check_all(),
         (Some("reads"), 4) => reads(&words[1], &words[2], &words[3]),
         (Some("writes"), 4) => writes(&words[1], &words[2], &words[3]),
+        (Some("longs"), 3) => longs(&words[1], &words[2]),
         (Some("against"), 3) => compare(&words[1], &words[2]),
         (Some("bench"), 1) => time(21),
         (Some("bench"), 2) => number(&words[1]).and_then(|rounds| time(rounds as usize)),
@@ -53,6 +54,10 @@ fn reads(count: &OsString, seed: &OsString, folder: &OsString) -> io::Result<boo
 fn writes(count: &OsString, seed: &OsString, folder: &OsString) -> io::Result<bool> {
     let (count, seed) = (number(count)?, number(seed)?);
     written::write(count as usize, seed, Path::new(folder)).map(|()| true)
+}
+
+fn longs(seed: &OsString, folder: &OsString) -> io::Result<bool> {
+    written::write_long(number(seed)?, Path::new(folder)).map(|()| true)
 }
 
 fn compare(count: &OsString, seed: &OsString) -> io::Result<bool> {

@@ -19,7 +19,7 @@ use Rattle.laws.specs.Listing.{noCmd, commands-at}
 use Rattle.laws.specs.Tests.{pick-both}
 use Rattle.dst.specs.Lines.{trimming, countsText, boundsText, lastText, endText}
 use Rattle.dst.proofs.Lines.{length-line, number-line, signed-line}
-use Rattle.dst.proofs.Names.{length-name, one-less}
+use Rattle.dst.proofs.Names.{length-name}
 
 -- ---- lengths
 
@@ -41,11 +41,6 @@ length-last x y =
     simp (length-append, signed-line 0x41 0x58 x, signed-line 0x41 0x59 (negℤ y), signed-line 0x4D 0x58 (pos 0), signed-line 0x4D 0x59 (pos 0))
 
 -- no more pass a test than there are
-pub count-le : {A : Type 0} (p : A → Bool) (s : List A) → count p s ≤ length s
-unfolding count
-count-le p [] = omega arith
-count-le p (x ∷ s) = pick-both (λ (k : ℕ). k + count p s ≤ suc (length s)) (p x) (omega (arith, count-le p s)) (omega (arith, count-le p s))
-
 -- ---- the last place
 
 end-x : (c : Cmd) (cs : List Cmd) → lastX (c ∷ cs) ≡ getD (c ∷ cs) (length cs) noCmd .x
@@ -57,6 +52,9 @@ end-y : (c : Cmd) (cs : List Cmd) → lastY (c ∷ cs) ≡ getD (c ∷ cs) (leng
 unfolding lastY
 end-y c [] = refl
 end-y c (d ∷ cs) = end-y d cs
+
+one-less : (n : ℕ) → suc n - 1 ≡ n
+one-less n = omega arith
 
 not-none : (n : ℕ) → eqb (suc n) 0 ≡ false
 not-none n = ne-eqb (suc n) 0 (λ h. omega arith)

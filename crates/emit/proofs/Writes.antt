@@ -65,6 +65,7 @@ module _ (f : Format) (name : List ℕ) (xs ys : List ℤ) (kinds threads : List
 pub record Fine (f : Format) (xs ys : List ℤ) (kinds threads : List ℕ) : Type 0 where
   pub long : length kinds ≤ 65535
   pub few : length threads ≤ 765
+  pub places : placeOutside (commands xs ys kinds) ≡ false
   pub steps : stepTooLong f (commands xs ys kinds) ≡ false
 
 module _ (f : Format) (xs ys : List ℤ) (kinds threads : List ℕ) (e : listVerdict f xs ys kinds threads ≡ Accepted) where
@@ -88,4 +89,4 @@ module _ (f : Format) (xs ys : List ℤ) (kinds threads : List ℕ) (e : listVer
       let c = first-false (tooMany (commands xs ys kinds) threads) _ _ (b .1) in
       let d = first-false (moved (commands xs ys kinds)) _ _ (c .1) in
       let s = first-false (stepTooLong f (commands xs ys kinds)) _ _ (d .1) in
-      record { long = few-commands (a .0); few = few-threads (c .0); steps = s .0 }
+      record { long = few-commands (a .0); few = few-threads (c .0); places = b .0; steps = s .0 }

@@ -1,8 +1,9 @@
 // Bytes, numbers and texts into a lent buffer: each function puts its bytes from `at` on and answers the place behind them.
+use geom::span;
 ghost use mathlib.Core.Path.{_≡_};
 ghost use mathlib.Core.List.{[], _∷_};
 ghost use Prim.Native.Nat.{_+_, _≤_, _<_};
-ghost use lib.IntN.{natAbs};
+ghost use lib.IntN.{natAbs, _-ℤ_};
 ghost use lib.ListN.{length, replicate};
 ghost use Rattle.rules.specs.Vocabulary.{little, digitAt, right};
 ghost use Rattle.laws.specs.Buffers.{Put};
@@ -61,6 +62,15 @@ pub fn put_word(out: &mut [u8], at: usize, v: u32) -> usize
         (higher % 256) as u8,
         (top % 256) as u8,
     )
+}
+
+// A number in two bytes, the low byte first; what is past them is lost.
+pub fn put_short(out: &mut [u8], at: usize, v: usize) -> usize
+    requires { ⌜ at + 2 ≤ length (now out) ⌝ }
+    ensures { λ r. ⌜ Put (now (out .entry)) (now (out .exit)) at r (little 2 v) ⌝ }
+{
+    let high = v / 256;
+    put2(out, at, (v % 256) as u8, (high % 256) as u8)
 }
 
 pub fn put_text(out: &mut [u8], at: usize, text: &[u8]) -> usize
@@ -141,4 +151,11 @@ pub fn size(z: i64) -> u32
         return (0 - z) as u32;
     }
     z as u32
+}
+
+// How far apart two numbers are.
+pub fn spread(a: i32, b: i32) -> u32
+    ensures { λ r. ⌜ r ≡ natAbs (b -ℤ a) ⌝ }
+{
+    size(span(a, b))
 }

@@ -14,3 +14,7 @@ pub mod Neighbours
 pub mod Reading
 pub mod Verdicts
 pub mod Arms
+pub mod Threads
+pub mod Names
+pub mod Lengths
+pub mod Places

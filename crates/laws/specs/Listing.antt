@@ -13,6 +13,7 @@ use lib.IntN.{ℤ, pos}
 use Rattle.rules.specs.Vocabulary.{pick, any, count}
 use Rattle.rules.specs.Lists.{commands, anyFrom}
 use Rattle.rules.specs.declared.Cmd.{Cmd}
+use Rattle.laws.specs.Tests.{by-test}
 
 -- one more element
 pub list-more : {A : Type 0} (s : List A) (d : A) (i : ℕ) → i < length s → drop i s ≡ getD s i d ∷ drop (i + 1) s
@@ -60,6 +61,12 @@ module _ {A : Type 0} (p : A → Bool) (s : List A) (d : A) (i n : ℕ) {whole :
   pub count-end : length s ≤ i → n ≡ whole
   unfolding count
   count-end h = sym (w ∙ rw (list-end s i h) (omega arith))
+
+-- no more pass than there are
+pub count-le : {A : Type 0} (p : A → Bool) (s : List A) → count p s ≤ length s
+unfolding count
+count-le p [] = omega arith
+count-le p (x ∷ s) = by-test (p x) (λ t. rw t (omega (arith, count-le p s))) (λ t. rw t (omega (arith, count-le p s)))
 
 -- ---- a list held in three slices
 

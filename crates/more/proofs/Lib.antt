@@ -1,5 +1,4 @@
 pub mod Words
 pub mod Hoops
 pub mod Parts
-pub mod Sizes
 pub mod Files

@@ -3,9 +3,8 @@ use Prim.Native.Nat.{ℕ, suc, _+_, _-_, _*_, _/_, _≤_, _<_, max}
 use mathlib.Core.Path.{_≡_, refl, sym, ap, _∙_}
 use mathlib.Core.List.{List, [], _∷_, _++_, append-nil}
 use native.Mathlib.Omega.{arith}
-use lib.ListN.{length, getD, drop, replicate, length-append, length-drop, length-replicate}
+use lib.ListN.{length, drop, replicate, length-append, length-drop, length-replicate}
 use Rattle.rules.specs.Vocabulary.{little, joined}
-use Rattle.rules.specs.Charts.{color}
 use Rattle.rules.specs.Choices.{jefChoice, jefEntries}
 use Rattle.rules.specs.Jef.{words, orOne, jefTable}
 use Rattle.rules.specs.Lists.{threadsOf}
@@ -13,8 +12,8 @@ use Rattle.rules.specs.declared.Color.{Color}
 use Rattle.rules.specs.declared.Previous.{Previous}
 use Rattle.rules.specs.declared.Previous.the-variants.{First, Entry}
 use Rattle.laws.specs.Decimals.{replicate-more}
-use Rattle.laws.specs.Listing.{list-more}
 use Rattle.laws.specs.Little.{length-little}
+use Rattle.laws.specs.Threads.{threadAt, threads-more, threads-none, length-threads}
 
 pub length-words : (ns : List ℕ) → length (words ns) ≡ 4 * length ns
 unfolding words joined
@@ -29,41 +28,7 @@ same-more k v h = ap words (replicate-more k v h)
 pub length-same : (k v : ℕ) → length (words (replicate k v)) ≡ 4 * k
 length-same k v = length-words (replicate k v) ∙ ap (λ (n : ℕ). 4 * n) (length-replicate k v)
 
--- ---- threads, three bytes each
-
--- the thread at i
-abbrev pub threadAt : List ℕ → ℕ → Color
-threadAt s i = color (getD s i 0) (getD s (i + 1) 0) (getD s (i + 2) 0)
-
-two-on : (i : ℕ) → i + 1 + 1 ≡ i + 2
-two-on i = omega arith
-
-three-on : (i : ℕ) → i + 2 + 1 ≡ i + 3
-three-on i = omega arith
-
-pub threads-more : (s : List ℕ) (i : ℕ) → i + 3 ≤ length s → threadsOf (drop i s) ≡ threadAt s i ∷ threadsOf (drop (i + 3) s)
-unfolding threadsOf
-threads-more s i h =
-    let e₁ : drop i s ≡ getD s i 0 ∷ drop (i + 1) s = list-more s 0 i (omega arith) in
-    let e₂ : drop (i + 1) s ≡ getD s (i + 1) 0 ∷ drop (i + 2) s = rw (← two-on i) (list-more s 0 (i + 1) (omega arith)) in
-    let e₃ : drop (i + 2) s ≡ getD s (i + 2) 0 ∷ drop (i + 3) s = rw (← three-on i) (list-more s 0 (i + 2) (omega arith)) in
-    rw (e₁, e₂, e₃)
-
-pub threads-none : (s : List ℕ) → length s < 3 → threadsOf s ≡ []
-unfolding threadsOf
-threads-none [] h = refl
-threads-none (r ∷ []) h = refl
-threads-none (r ∷ g ∷ []) h = refl
-threads-none (r ∷ g ∷ b ∷ s) h = absurd (omega arith)
-
-length-threads : (s : List ℕ) → length (threadsOf s) ≡ length s / 3
-unfolding threadsOf
-length-threads [] = omega arith
-length-threads (r ∷ []) = omega arith
-length-threads (r ∷ g ∷ []) = omega arith
-length-threads (r ∷ g ∷ b ∷ s) = omega (arith, length-threads s)
-
--- ---- their entries
+-- ---- the threads' entries
 
 -- one more thread, whose entry is e
 pub entries-more : (last : Previous) (s : List ℕ) (i : ℕ) {e : ℕ} → i + 3 ≤ length s → e ≡ jefChoice last (threadAt s i)

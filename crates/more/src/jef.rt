@@ -5,13 +5,12 @@ use emit::put_text;
 use emit::put_times;
 use emit::put_word;
 use emit::put2;
-use emit::size;
+use emit::spread;
 use encode::put_stream;
 use encode::stream_len;
 use formats::list_len;
 use formats::op_of;
 use formats::stream_bounds;
-use geom::span;
 use rules::Color;
 use rules::Format;
 use rules::Op;
@@ -209,8 +208,8 @@ fn put_header(xs: &[i32], ys: &[i32], kinds: &[u8], threads: &[u8], out: &mut [u
 {
     let n = table_len(threads);
     let b = stream_bounds(xs, ys, kinds);
-    let w = size(span(b.min.x, b.max.x));
-    let h = size(span(b.min.y, b.max.y));
+    let w = spread(b.min.x, b.max.x);
+    let h = spread(b.min.y, b.max.y);
     let sizes = put_start(n, point_count(xs, ys, kinds), jef_hoop(w, h), out);
     let table = put_sizes(w, h, out, sizes);
     let second = jef_palette(threads, out, table);

@@ -15,7 +15,7 @@ use Rattle.rules.specs.declared.Record.the-variants.{StitchBy, JumpBy, ChangeBy
 use Rattle.laws.specs.Listing.{list-more, list-end}
 use Rattle.laws.specs.Tests.{by-test, and-left, and-right}
 use Rattle.records.specs.Axes.{axisFrom}
-use Rattle.records.specs.declared.pec.Coord.{Coord}
+use Rattle.records.specs.declared.steps.Coord.{Coord}
 use Rattle.records.proofs.Parts.{drop-two}
 
 -- ---- one step

@@ -3,7 +3,7 @@ use mathlib.Core.Bool.{not}
 use lib.Dec.{eqb}
 use Rattle.rules.specs.Vocabulary.{pick}
 use Rattle.rules.specs.Pec.{Axis, axis, none}
-use Rattle.records.specs.declared.pec.Coord.{Coord}
+use Rattle.records.specs.declared.steps.Coord.{Coord}
 
 -- a length of 0 says that the file ended before the step did
 abbrev pub axisFrom : Coord → Axis

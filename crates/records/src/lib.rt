@@ -1,13 +1,13 @@
 // What stands at a place of a file: the record there, in each format.
 pub mod bytes;
-pub mod dst;
 pub mod pair;
-pub mod pec;
 pub mod plain;
+pub mod steps;
+pub mod triples;
 
-use crate::dst::dst_record;
 use crate::pair::exp_record;
-use crate::pec::pec_record;
+use crate::steps::pec_record;
+use crate::triples::dst_record;
 use rules::Format;
 use rules::Record;
 ghost use mathlib.Core.Path.{_≡_};

@@ -11,10 +11,6 @@ use super::bytes::name;
 use super::bytes::packed;
 use super::bytes::threads;
 use super::packbits::opens_to;
-use dst::dst_from_stream;
-use more::exp::write_exp;
-use more::jef::write_jef;
-use rules::Refusal;
 use rules::WriteAnswer;
 ghost use mathlib.Core.Path.{_≡_};
 ghost use Prim.Native.Nat.{_≤_};
@@ -27,9 +23,9 @@ pub enum Outcome {
     Skipped,
 }
 
-// Formats 0 and 1, PES and PEC, are not written yet.
-fn has_writer(format: u8) -> bool {
-    2 <= format
+// Formats are 0 to 4: PES, PEC, DST, EXP, JEF. A case of another is skipped.
+fn is_format(format: u8) -> bool {
+    format <= 4
 }
 
 // Writes the list of the case to a buffer that is marked first.
@@ -37,10 +33,11 @@ fn write(case: &[u8], xs: &[i32], ys: &[i32], kinds: &[u8], out: &mut [u8]) -> W
     mark(out);
     let format = byte(case, 0);
     match format {
-        2 => dst_from_stream(name(case), xs, ys, kinds, threads(case), out),
-        3 => write_exp(xs, ys, kinds, threads(case), out),
-        4 => write_jef(xs, ys, kinds, threads(case), out),
-        _ => WriteAnswer::Unwritten(Refusal::UnknownExtension),
+        0 => stitch_box::write(b"pes", name(case), xs, ys, kinds, threads(case), out),
+        1 => stitch_box::write(b"pec", name(case), xs, ys, kinds, threads(case), out),
+        2 => stitch_box::write(b"dst", name(case), xs, ys, kinds, threads(case), out),
+        3 => stitch_box::write(b"exp", name(case), xs, ys, kinds, threads(case), out),
+        _ => stitch_box::write(b"jef", name(case), xs, ys, kinds, threads(case), out),
     }
 }
 
@@ -104,7 +101,7 @@ pub fn judged(
     if !is_whole(case) {
         return Outcome::Wrong;
     }
-    if !has_writer(byte(case, 0)) {
+    if !is_format(byte(case, 0)) {
         return Outcome::Skipped;
     }
     let n = list_len(case);

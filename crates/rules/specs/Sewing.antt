@@ -2,10 +2,11 @@
 use Prim.Native.Nat.{ℕ, zero, suc, _+_, _*_}
 use mathlib.Core.List.{List, [], _∷_, _++_}
 use lib.IntN.{ℤ, pos}
-use lib.ListN.{drop}
+use lib.ListN.{take, drop}
 use Rattle.rules.specs.Vocabulary.{pick}
 use Rattle.rules.specs.Lists.{opOf, samePlace}
 use Rattle.rules.specs.declared.Cmd.{Cmd}
+use Rattle.rules.specs.declared.Counts.{Counts}
 use Rattle.rules.specs.declared.Op.{Op}
 use Rattle.rules.specs.declared.Op.the-variants.{Stitch, Jump, Trim, ColorChange, End}
 
@@ -78,3 +79,7 @@ fileSewing ps rs [] = []
 fileSewing ps rs (k ∷ []) = []
 fileSewing ps rs (k ∷ c ∷ []) = []
 fileSewing ps rs (k ∷ c ∷ m ∷ bs) = runsSewing k m ps rs ++ fileSewing (drop (cells m rs) ps) (drop m rs) bs
+
+-- the same from the lent buffers: as many cells at their front as the counts tell
+unfoldable pub toldSewing : Counts → List ℤ → List ℕ → List ℕ → List Entry
+toldSewing c ps rs bs = fileSewing (take (2 * c .points) ps) (take (c .runs) rs) (take (3 * c .blocks) bs)

@@ -7,3 +7,4 @@ pub mod PecSewing
 pub mod PecFiles
 pub mod PairSewing
 pub mod Theorem
+pub mod Calls

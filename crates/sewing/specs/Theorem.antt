@@ -19,6 +19,7 @@ use Rattle.rules.specs.declared.Extension.the-variants.{Of}
 use Rattle.rules.specs.declared.Format.{Format}
 use Rattle.rules.specs.declared.Format.the-variants.{Pes, Pec, Dst, Exp, Jef}
 use Rattle.rules.specs.declared.Verdict.the-variants.{Accepted}
+use Rattle.laws.specs.Threads.{length-threads}
 use Rattle.laws.specs.Tests.{or-no-left, or-no-right}
 use Rattle.laws.specs.Listing.{length-commands}
 use Rattle.laws.specs.Verdicts.{verdict-on}
@@ -33,13 +34,6 @@ abbrev pub readSewing : Format → List ℕ → List Entry
 readSewing f s = fileSewing (placesOf f s) (runsOf f s) (blocksOf f s)
 
 -- ---- what acceptance says of sizes
-
-length-threads : (s : List ℕ) → length (threadsOf s) ≡ length s / 3
-unfolding threadsOf
-length-threads [] = refl
-length-threads (r ∷ []) = refl
-length-threads (r ∷ g ∷ []) = refl
-length-threads (r ∷ g ∷ b ∷ s) = omega (arith, length-threads s)
 
 few : (f : Format) (xs ys : List ℤ) (kinds threads : List ℕ) → Taken f xs ys kinds threads → Few (commands xs ys kinds) threads
 unfolding tooMany

@@ -9,9 +9,9 @@ use Rattle.rules.specs.Lists.{commands}
 use Rattle.rules.specs.Refusals.{changes}
 use Rattle.laws.specs.Buffers.{put-put, put-as}
 use Rattle.laws.specs.Ints.{ints, ret}
-use Rattle.laws.specs.Listing.{length-commands}
+use Rattle.laws.specs.Listing.{count-le, length-commands}
 use Rattle.dst.proofs.Lines.{after-put}
-use Rattle.dst.proofs.Text.{length-label, length-counts, length-bounds, length-last, count-le, last-x, last-y, text-is}
+use Rattle.dst.proofs.Text.{length-label, length-counts, length-bounds, length-last, last-x, last-y, text-is}
 use borrow.Author.Needs.{needs}
 use Rattle.dst.proofs.put_text_of.Statement.{statement}
 use Rattle.dst.proofs.put_text_of.Tie as tie

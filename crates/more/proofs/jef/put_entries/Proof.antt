@@ -11,7 +11,8 @@ use Rattle.rules.specs.declared.Previous.the-variants.{First}
 use Rattle.laws.specs.Buffers.{Writing, writing-start, writing-room, writing-more, writing-done}
 use Rattle.laws.specs.Little.{length-little}
 use Rattle.laws.specs.Neighbours.{jef-choice-in}
-use Rattle.more.proofs.Words.{threadAt, entries-more, entries-none}
+use Rattle.laws.specs.Threads.{threadAt}
+use Rattle.more.proofs.Words.{entries-more, entries-none}
 use Rattle.more.proofs.jef.put_entries.Statement.{statement}
 use Rattle.more.proofs.jef.put_entries.Tie as tie
 

@@ -14,8 +14,8 @@ returns c = search needs
 byte-requires : tie.Need-byte-requires
 byte-requires c κs = search needs
 
-has-writer-requires : tie.Need-has-writer-requires
-has-writer-requires c κs = search needs
+is-format-requires : tie.Need-is-format-requires
+is-format-requires c κs = search needs
 
 returns-2 : tie.Need-returns-2
 returns-2 c = search needs
@@ -87,7 +87,7 @@ judged-spec =
     is-whole-requires
     returns
     byte-requires
-    has-writer-requires
+    is-format-requires
     returns-2
     list-len-requires
     from-list-requires

@@ -1,0 +1,23 @@
+-- Past the threads there is none.
+use mathlib.Core.Path.{sym}
+use native.Mathlib.Omega.{arith}
+use denote.Ref.{now}
+use lib.ListN.{List·getD-eq-default}
+use Rattle.rules.specs.Charts.{color}
+use Rattle.rules.specs.Lists.{threadsOf}
+use Rattle.laws.specs.Threads.{length-threads}
+use borrow.Author.Needs.{needs}
+use Rattle.codes.proofs.thread_or_black.Statement.{statement}
+use Rattle.codes.proofs.thread_or_black.Tie as tie
+
+thread-at-requires : tie.Need-thread-at-requires
+thread-at-requires c κs = omega (arith, c .if1 .taken, length-threads (now (c .before .before .args .threads)))
+
+returns : tie.Need-returns
+returns c = search needs
+
+returns-2 : tie.Need-returns-2
+returns-2 c = sym (List·getD-eq-default (threadsOf (now (c .before .before .args .threads))) (color 0 0 0) (omega (arith, c .if1 .left, length-threads (now (c .before .before .args .threads)))))
+
+pub thread-or-black-spec : {M : Type 1} → statement M
+thread-or-black-spec = tie.close (tie.spec thread-at-requires returns returns-2)

@@ -1,0 +1,2 @@
+-- Lemmas for those who use bounds.
+pub mod Sizes

@@ -1,0 +1,79 @@
+-- With no threads the bytes of the definition; else blanks, the count and the entries.
+use Prim.Native.Nat.{ℕ, suc, _-_, _/_}
+use mathlib.Core.Path.{_≡_}
+use mathlib.Core.List.{List, [], _∷_, _++_, append-nil}
+use native.Mathlib.Omega.{arith}
+use denote.Ref.{now}
+use lib.ListN.{length, replicate}
+use Rattle.rules.specs.Vocabulary.{joined}
+use Rattle.rules.specs.Lists.{threadsOf}
+use Rattle.rules.specs.Pec.{uniquePalette, pecColors}
+use Rattle.laws.specs.Buffers.{put-as, put-put}
+use Rattle.laws.specs.Lengths.{length-unique}
+use Rattle.laws.specs.Threads.{length-threads, threads-none}
+use borrow.Author.Needs.{needs}
+use Rattle.pec_part.proofs.put_colors.Statement.{statement}
+use Rattle.pec_part.proofs.put_colors.Tie as tie
+
+with-count : (es : List ℕ) {n : ℕ} → length es ≡ suc n → replicate 12 0x20 ++ ((n ∷ []) ++ es) ≡ pecColors es
+unfolding pecColors joined
+with-count [] e = absurd (omega (arith, e))
+with-count (x ∷ es) {n} e =
+    let f : n ≡ length es = omega (arith, e) in
+    rw (f, append-nil)
+
+module _ (threads : List ℕ) where
+  abbrev n : ℕ
+  n = length threads / 3
+
+  none : n ≡ 0 → pecColors [] ≡ pecColors (uniquePalette (threadsOf threads))
+  unfolding uniquePalette
+  none e = rw (threads-none threads (omega (arith, e)))
+
+  some : ((n ≡ 0) → ⊥) → replicate 12 0x20 ++ (((n - 1) ∷ []) ++ uniquePalette (threadsOf threads)) ≡ pecColors (uniquePalette (threadsOf threads))
+  some h = with-count (uniquePalette (threadsOf threads)) (omega (arith, length-unique (threadsOf threads), length-threads threads, h))
+
+put-no-colors-requires : tie.Need-put-no-colors-requires
+put-no-colors-requires c κs = search needs
+
+same-length : tie.Need-same-length
+same-length c = search needs
+
+returns : tie.Need-returns
+returns c = put-as (c .before .before .put-no-colors .ensures) (none (now (c .before .before .before .before .before .before .before .args .threads)) (c .before .before .before .before .if1 .taken))
+
+put-times-requires : tie.Need-put-times-requires
+put-times-requires c κs = search needs
+
+sub-put : tie.Need-sub-put
+sub-put c = search needs
+
+cast-put : tie.Need-cast-put
+cast-put c = search needs
+
+put-requires : tie.Need-put-requires
+put-requires c κs = search needs
+
+unique-palette-requires : tie.Need-unique-palette-requires
+unique-palette-requires c κs = search needs
+
+same-length-2 : tie.Need-same-length-2
+same-length-2 c = search needs
+
+returns-2 : tie.Need-returns-2
+returns-2 c = put-as (put-put (c .before .before .before .before .before .before .before .before .before .before .put-times .ensures) (put-put (c .before .before .before .before .before .before .put .ensures) (c .before .before .unique-palette .ensures))) (some (now (c .before .before .before .before .before .before .before .before .before .before .before .before .before .before .before .args .threads)) (c .before .before .before .before .before .before .before .before .before .before .before .before .if1 .left))
+
+pub put-colors-spec : {M : Type 1} → statement M
+put-colors-spec =
+    tie.close
+    (tie.spec
+    put-no-colors-requires
+    same-length
+    returns
+    put-times-requires
+    sub-put
+    cast-put
+    put-requires
+    unique-palette-requires
+    same-length-2
+    returns-2)

@@ -1,0 +1,43 @@
+-- The parts in a row.
+use native.Mathlib.Omega.{arith}
+use Rattle.laws.specs.Buffers.{put-put, put-length, put-nothing}
+use denote.Ref.{now}
+use Rattle.rules.specs.Vocabulary.{joined}
+use Rattle.laws.specs.Lengths.{length-name}
+use borrow.Author.Needs.{needs}
+use Rattle.pec_part.proofs.put_label.Statement.{statement}
+use Rattle.pec_part.proofs.put_label.Tie as tie
+
+put3-requires : tie.Need-put3-requires
+put3-requires c κs = search needs
+
+put-name-requires : tie.Need-put-name-requires
+put-name-requires c κs = search needs
+
+put-requires : tie.Need-put-requires
+put-requires c κs = omega (arith, put-length (c .before .before .before .before .before .before .before .put3 .ensures), put-length (c .before .before .before .put-name .ensures), length-name (now (c .before .before .before .before .before .before .before .before .before .before .before .args .name)))
+
+put-times-requires : tie.Need-put-times-requires
+put-times-requires c κs = omega (arith, put-length (c .before .before .before .before .before .before .before .before .before .before .before .put3 .ensures), put-length (c .before .before .before .before .before .before .before .put-name .ensures), put-length (c .before .before .before .put .ensures), length-name (now (c .before .before .before .before .before .before .before .before .before .before .before .before .before .before .before .args .name)))
+
+put4-requires : tie.Need-put4-requires
+put4-requires c κs = omega (arith, put-length (c .before .before .before .before .before .before .before .before .before .before .before .before .before .before .before .put3 .ensures), put-length (c .before .before .before .before .before .before .before .before .before .before .before .put-name .ensures), put-length (c .before .before .before .before .before .before .before .put .ensures), put-length (c .before .before .before .put-times .ensures), length-name (now (c .before .before .before .before .before .before .before .before .before .before .before .before .before .before .before .before .before .before .before .args .name)))
+
+same-length : tie.Need-same-length
+same-length c = search needs
+
+returns : tie.Need-returns
+unfolding joined
+returns c = put-put (c .before .before .before .before .before .before .before .before .before .before .before .before .before .before .before .before .before .before .put3 .ensures) (put-put (c .before .before .before .before .before .before .before .before .before .before .before .before .before .before .put-name .ensures) (put-put (c .before .before .before .before .before .before .before .before .before .before .put .ensures) (put-put (c .before .before .before .before .before .before .put-times .ensures) (put-put (c .before .before .put4 .ensures) (put-nothing _ _)))))
+
+pub put-label-spec : {M : Type 1} → statement M
+put-label-spec =
+    tie.close
+    (tie.spec
+    put3-requires
+    put-name-requires
+    put-requires
+    put-times-requires
+    put4-requires
+    same-length
+    returns)

@@ -1,0 +1,182 @@
+// PEC: the header and the stitch block that a PEC file holds after its signature and a PES file at its end.
+use checks::color_changes;
+use emit::put;
+use emit::put_short;
+use emit::put_text;
+use emit::put_times;
+use emit::put2;
+use emit::put3;
+use emit::put4;
+use emit::spread;
+use formats::stream_bounds;
+use palette::unique_palette;
+use pec::pec_encode;
+use thumbnails::put_icons;
+ghost use mathlib.Core.Path.{_≡_};
+ghost use mathlib.Core.Bool.{false};
+ghost use mathlib.Core.List.{[]};
+ghost use Prim.Native.Nat.{_+_, _-_, _≤_};
+ghost use lib.Dec.{ltb};
+ghost use lib.IntN.{pos};
+ghost use lib.ListN.{length, replicate};
+ghost use Rattle.rules.specs.Vocabulary.{little, padded};
+ghost use Rattle.rules.specs.Lists.{commands, pecName, threadsOf};
+ghost use Rattle.rules.specs.Pec.{pecStart, pecStitches, uniquePalette, pecColors, pecHeader, pecPart};
+ghost use Rattle.rules.specs.Refusals.{stepTooLong};
+ghost use Rattle.rules.specs.declared.Format.the-variants.{Pec};
+ghost use Rattle.laws.specs.Buffers.{Put};
+ghost use Rattle.pec_part.specs.Parts.{labelText, sizesText, partLong};
+
+// Bytes of a name that stay.
+fn stays(b: u8) -> bool
+    ensures { λ r. ⌜ r ≡ ltb b 0x80 ⌝ }
+{
+    b < 0x80
+}
+
+// The name in 16 bytes: at most 8 that stay, then blanks.
+fn put_name(name: &[u8], out: &mut [u8], at: usize) -> usize
+    requires { ⌜ at + 16 ≤ length (now out) ⌝ }
+    ensures { λ r. ⌜ Put (now (out .entry)) (now (out .exit)) at r (padded 16 (pecName (now (name .entry)))) ⌝ }
+{
+    let mut left: usize = 8;
+    let mut to = at;
+    let mut i = 0;
+    while i < name.len() {
+        if left == 0 {
+            return put_times(out, to, 0x20, 8);
+        }
+        let b = name[i];
+        i += 1;
+        if !stays(b) {
+            continue;
+        }
+        to = put(out, to, b);
+        left -= 1;
+    }
+    put_times(out, to, 0x20, 8 + left)
+}
+
+// `LA:`, the name, a carriage return, 12 blanks, FF 00, 6 bytes by 38 rows.
+fn put_label(name: &[u8], out: &mut [u8], at: usize) -> usize
+    requires { ⌜ at + 36 ≤ length (now out) ⌝ }
+    ensures { λ r. ⌜ Put (now (out .entry)) (now (out .exit)) at r (labelText (now (name .entry))) ⌝ }
+{
+    let text = put3(out, at, 0x4C, 0x41, 0x3A);
+    let end = put_name(name, out, text);
+    let blanks = put(out, end, 0x0D);
+    let picture = put_times(out, blanks, 0x20, 12);
+    put4(out, picture, 0xFF, 0x00, 0x06, 0x26)
+}
+
+// Where there are no threads: 12 bytes, and count byte FF.
+fn put_no_colors(out: &mut [u8], at: usize) -> usize
+    requires { ⌜ at + 13 ≤ length (now out) ⌝ }
+    ensures { λ r. ⌜ Put (now (out .entry)) (now (out .exit)) at r (pecColors []) ⌝ }
+{
+    let second = put4(out, at, 0x20, 0x20, 0x20, 0x20);
+    let third = put4(out, second, 0x64, 0x20, 0x00, 0x20);
+    let count = put4(out, third, 0x00, 0x20, 0x20, 0x20);
+    put(out, count, 0xFF)
+}
+
+// 12 blanks, the count less one and the entries.
+fn put_colors(threads: &[u8], out: &mut [u8], at: usize) -> usize
+    requires { ⌜ length (now threads) ≤ 765 ⌝ }
+    requires { ⌜ at + (13 + length (threadsOf (now threads))) ≤ length (now out) ⌝ }
+    ensures { λ r. ⌜ Put (now (out .entry)) (now (out .exit)) at r (pecColors (uniquePalette (threadsOf (now (threads .entry))))) ⌝ }
+{
+    let n = threads.len() / 3;
+    if n == 0 {
+        return put_no_colors(out, at);
+    }
+    let count = put_times(out, at, 0x20, 12);
+    let entries = put(out, count, (n - 1) as u8);
+    unique_palette(threads, out, entries)
+}
+
+// Blanks where n threads leave room.
+fn put_fill(n: usize, out: &mut [u8], at: usize) -> usize
+    requires { ⌜ n ≤ 463 ⌝ }
+    requires { ⌜ at + (463 - n) ≤ length (now out) ⌝ }
+    ensures { λ r. ⌜ Put (now (out .entry)) (now (out .exit)) at r (replicate (463 - n) 0x20) ⌝ }
+{
+    let blanks = [0x20u8; 463];
+    put_text(out, at, &blanks[n..])
+}
+
+// The header: 512 bytes.
+fn put_header(name: &[u8], threads: &[u8], out: &mut [u8], at: usize) -> usize
+    requires { ⌜ length (now threads) ≤ 765 ⌝ }
+    requires { ⌜ at + 512 ≤ length (now out) ⌝ }
+    ensures { λ r. ⌜ Put (now (out .entry)) (now (out .exit)) at r (pecHeader (now (name .entry)) (threadsOf (now (threads .entry)))) ⌝ }
+{
+    let colors = put_label(name, out, at);
+    let fill = put_colors(threads, out, colors);
+    put_fill(threads.len() / 3, out, fill)
+}
+
+// A number in three bytes, the low byte first.
+fn put_three(v: usize, out: &mut [u8], at: usize) -> usize
+    requires { ⌜ at + 3 ≤ length (now out) ⌝ }
+    ensures { λ r. ⌜ Put (now (out .entry)) (now (out .exit)) at r (little 3 v) ⌝ }
+{
+    let high = v / 256;
+    let top = high / 256;
+    put3(
+        out,
+        at,
+        (v % 256) as u8,
+        (high % 256) as u8,
+        (top % 256) as u8,
+    )
+}
+
+// What stands before n bytes of stitches.
+fn put_sizes(n: usize, w: u32, h: u32, out: &mut [u8], at: usize) -> usize
+    requires { ⌜ n ≤ 1000000 ⌝ }
+    requires { ⌜ at + 16 ≤ length (now out) ⌝ }
+    ensures { λ r. ⌜ Put (now (out .entry)) (now (out .exit)) at r (sizesText n w h) ⌝ }
+{
+    let long = put2(out, at, 0x00, 0x00);
+    let mark = put_three(16 + n, out, long);
+    let wide = put3(out, mark, 0x31, 0xFF, 0xF0);
+    let high = put_short(out, wide, w as usize);
+    let third = put_short(out, high, h as usize);
+    let fourth = put_short(out, third, 0x1E0);
+    put_short(out, fourth, 0x1B0)
+}
+
+// Writes the part from `at` on; n is how many bytes the stitches take.
+pub fn write_pec(
+    name: &[u8],
+    xs: &[i32],
+    ys: &[i32],
+    kinds: &[u8],
+    threads: &[u8],
+    n: usize,
+    out: &mut [u8],
+    at: usize,
+) -> usize
+    requires { ⌜ (length (now kinds) ≤ 65535) × ((length (now threads) ≤ 765) × (stepTooLong Pec (commands (now xs) (now ys) (now kinds)) ≡ false)) ⌝ }
+    requires { ⌜ n ≡ length (pecStitches pecStart (pos 0) (pos 0) (commands (now xs) (now ys) (now kinds))) ⌝ }
+    requires { ⌜ at + length (pecPart (now name) (commands (now xs) (now ys) (now kinds)) (threadsOf (now threads))) ≤ length (now out) ⌝ }
+    ensures { λ r. ⌜ Put (now (out .entry)) (now (out .exit)) at r (pecPart (now (name .entry)) (commands (now (xs .entry)) (now (ys .entry)) (now (kinds .entry))) (threadsOf (now (threads .entry)))) ⌝ }
+{
+    let b = stream_bounds(xs, ys, kinds);
+    let w = spread(b.min.x, b.max.x);
+    let h = spread(b.min.y, b.max.y);
+    let block = put_header(name, threads, out, at);
+    let stitches = put_sizes(n, w, h, out, block);
+    let pictures = pec_encode(xs, ys, kinds, out, stitches);
+    put_icons(xs, ys, kinds, out, pictures)
+}
+
+// How long the part is, its stitches taking n bytes.
+pub fn part_len(xs: &[i32], ys: &[i32], kinds: &[u8], threads: &[u8], n: usize) -> usize
+    requires { ⌜ (length (now kinds) ≤ 65535) × (length (now threads) ≤ 765) ⌝ }
+    requires { ⌜ n ≡ length (pecStitches pecStart (pos 0) (pos 0) (commands (now xs) (now ys) (now kinds))) ⌝ }
+    ensures { λ r. ⌜ partLong (threadsOf (now (threads .entry))) (commands (now (xs .entry)) (now (ys .entry)) (now (kinds .entry))) r ⌝ }
+{
+    528 + n + 228 * (2 + color_changes(xs, ys, kinds))
+}

@@ -1,0 +1,2 @@
+-- Lemmas for whole files.
+pub mod Files

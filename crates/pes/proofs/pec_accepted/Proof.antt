@@ -1,0 +1,62 @@
+-- By the length of the file.
+use Prim.Native.Nat.{_+_}
+use mathlib.Core.Path.{_≡_}
+use native.Mathlib.Omega.{arith}
+use denote.Ref.{now}
+use lib.ListN.{length}
+use Rattle.rules.specs.Lists.{commands, threadsOf}
+use Rattle.rules.specs.Pec.{pecFile}
+use Rattle.laws.specs.Lengths.{pec-length}
+use Rattle.emit.proofs.Writes.{written, unwritten}
+use borrow.Author.Needs.{needs}
+use Rattle.pes.proofs.pec_accepted.Statement.{statement}
+use Rattle.pes.proofs.pec_accepted.Tie as tie
+
+pec-len-requires : tie.Need-pec-len-requires
+pec-len-requires c κs = search needs
+
+part-len-requires : tie.Need-part-len-requires
+part-len-requires c κs = search needs
+
+add-long : tie.Need-add-long
+add-long c = search needs
+
+returns : tie.Need-returns
+returns c =
+    let a = c .before .before .before .before .before .before .before .args in
+    let cs = commands (now (a .xs)) (now (a .ys)) (now (a .kinds)) in
+    let ts = threadsOf (now (a .threads)) in
+    let long : 8 + c .before .part-len .result ≡ length (pecFile (now (a .name)) cs ts) = omega (arith, c .before .part-len .ensures .long (now (a .name)), pec-length (now (a .name)) cs ts) in
+    unwritten (omega (arith, long, c .if1 .taken))
+
+put-pec-file-requires : tie.Need-put-pec-file-requires
+put-pec-file-requires c κs =
+    let a = c .before .before .before .before .before .before .before .before .args in
+    let cs = commands (now (a .xs)) (now (a .ys)) (now (a .kinds)) in
+    let ts = threadsOf (now (a .threads)) in
+    let long : 8 + c .before .before .part-len .result ≡ length (pecFile (now (a .name)) cs ts) = omega (arith, c .before .before .part-len .ensures .long (now (a .name)), pec-length (now (a .name)) cs ts) in
+    let p = c .before .before .before .before .before .before .before .before .pre in
+    (record { long = p .0; few = p .1 .0; steps = p .1 .1; bytes = c .before .before .before .pec-len .ensures }, omega (arith, long, c .before .if1 .left))
+
+same-length : tie.Need-same-length
+same-length c = search needs
+
+returns-2 : tie.Need-returns-2
+returns-2 c =
+    let a = c .before .before .before .before .before .before .before .before .before .before .before .args in
+    let cs = commands (now (a .xs)) (now (a .ys)) (now (a .kinds)) in
+    let ts = threadsOf (now (a .threads)) in
+    let long : 8 + c .before .before .before .before .before .part-len .result ≡ length (pecFile (now (a .name)) cs ts) = omega (arith, c .before .before .before .before .before .part-len .ensures .long (now (a .name)), pec-length (now (a .name)) cs ts) in
+    written (omega (arith, long, c .before .before .before .before .if1 .left)) (c .before .before .put-pec-file .ensures)
+
+pub pec-accepted-spec : {M : Type 1} → statement M
+pec-accepted-spec =
+    tie.close
+    (tie.spec
+    pec-len-requires
+    part-len-requires
+    add-long
+    returns
+    put-pec-file-requires
+    same-length
+    returns-2)

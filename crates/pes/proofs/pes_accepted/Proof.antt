@@ -1,0 +1,84 @@
+-- By the length of the file.
+use Prim.Native.Nat.{_+_}
+use mathlib.Core.Path.{_≡_, sym, _∙_}
+use native.Mathlib.Omega.{arith}
+use denote.Ref.{now}
+use lib.ListN.{length}
+use Rattle.rules.specs.Lists.{commands, threadsOf}
+use Rattle.rules.specs.Pes.{pesFile}
+use Rattle.emit.proofs.Writes.{written, unwritten}
+use Rattle.pes.proofs.Files.{same-steps, bytes-small, logged-small, blocks-long, file-long}
+use borrow.Author.Needs.{needs}
+use Rattle.pes.proofs.pes_accepted.Statement.{statement}
+use Rattle.pes.proofs.pes_accepted.Tie as tie
+
+measured-requires : tie.Need-measured-requires
+measured-requires c κs = search needs
+
+pec-len-requires : tie.Need-pec-len-requires
+pec-len-requires c κs =
+    let a = c .before .before .before .before .before .args in
+    let cs = commands (now (a .xs)) (now (a .ys)) (now (a .kinds)) in
+    let ts = threadsOf (now (a .threads)) in
+    (c .before .before .before .before .before .pre .0 .0, sym (same-steps cs) ∙ c .before .before .before .before .before .pre .0 .1 .1)
+
+blocks-len-requires : tie.Need-blocks-len-requires
+blocks-len-requires c κs =
+    let a = c .before .before .before .before .before .before .args in
+    let cs = commands (now (a .xs)) (now (a .ys)) (now (a .kinds)) in
+    let ts = threadsOf (now (a .threads)) in
+    (bytes-small (now (a .xs)) (now (a .ys)) (now (a .kinds)) ts (c .before .before .before .before .before .before .pre .0 .0) (c .before .measured .result) (c .before .measured .ensures), logged-small (now (a .xs)) (now (a .ys)) (now (a .kinds)) ts (c .before .before .before .before .before .before .pre .0 .0) (c .before .measured .result) (c .before .measured .ensures))
+
+add-long : tie.Need-add-long
+add-long c = search needs
+
+part-len-requires : tie.Need-part-len-requires
+part-len-requires c κs = search needs
+
+add-long-2 : tie.Need-add-long-2
+add-long-2 c = search needs
+
+returns : tie.Need-returns
+returns c =
+    let a = c .before .before .before .before .before .before .before .before .before .args in
+    let cs = commands (now (a .xs)) (now (a .ys)) (now (a .kinds)) in
+    let ts = threadsOf (now (a .threads)) in
+    let long : 22 + c .before .before .blocks-len .result + c .before .part-len .result ≡ length (pesFile (now (a .name)) cs ts) = omega (arith, c .before .before .blocks-len .ensures .0, blocks-long cs ts (c .before .before .before .before .measured .result) (c .before .before .before .before .measured .ensures), c .before .part-len .ensures .long (now (a .name)), file-long (now (a .name)) cs ts) in
+    unwritten (omega (arith, long, c .if1 .taken))
+
+put-pes-file-requires : tie.Need-put-pes-file-requires
+put-pes-file-requires c κs =
+    let a = c .before .before .before .before .before .before .before .before .before .before .args in
+    let cs = commands (now (a .xs)) (now (a .ys)) (now (a .kinds)) in
+    let ts = threadsOf (now (a .threads)) in
+    let long : 22 + c .before .before .before .blocks-len .result + c .before .before .part-len .result ≡ length (pesFile (now (a .name)) cs ts) = omega (arith, c .before .before .before .blocks-len .ensures .0, blocks-long cs ts (c .before .before .before .before .before .measured .result) (c .before .before .before .before .before .measured .ensures), c .before .before .part-len .ensures .long (now (a .name)), file-long (now (a .name)) cs ts) in
+    let p = c .before .before .before .before .before .before .before .before .before .before .pre in (
+      record { long = p .0 .0; few = p .0 .1 .0; steps = sym (same-steps cs) ∙ p .0 .1 .1; bytes = c .before .before .before .before .pec-len .ensures },
+      ((p .1, (c .before .before .before .before .before .measured .ensures, (bytes-small (now (a .xs)) (now (a .ys)) (now (a .kinds)) ts (c .before .before .before .before .before .before .before .before .before .before .pre .0 .0) (c .before .before .before .before .before .measured .result) (c .before .before .before .before .before .measured .ensures), logged-small (now (a .xs)) (now (a .ys)) (now (a .kinds)) ts (c .before .before .before .before .before .before .before .before .before .before .pre .0 .0) (c .before .before .before .before .before .measured .result) (c .before .before .before .before .before .measured .ensures)))), omega (arith, long, c .before .if1 .left)),
+    )
+
+same-length : tie.Need-same-length
+same-length c = search needs
+
+returns-2 : tie.Need-returns-2
+returns-2 c =
+    let a = c .before .before .before .before .before .before .before .before .before .before .before .before .before .args in
+    let cs = commands (now (a .xs)) (now (a .ys)) (now (a .kinds)) in
+    let ts = threadsOf (now (a .threads)) in
+    let long : 22 + c .before .before .before .before .before .before .blocks-len .result + c .before .before .before .before .before .part-len .result ≡ length (pesFile (now (a .name)) cs ts) = omega (arith, c .before .before .before .before .before .before .blocks-len .ensures .0, blocks-long cs ts (c .before .before .before .before .before .before .before .before .measured .result) (c .before .before .before .before .before .before .before .before .measured .ensures), c .before .before .before .before .before .part-len .ensures .long (now (a .name)), file-long (now (a .name)) cs ts) in
+    written (omega (arith, long, c .before .before .before .before .if1 .left)) (c .before .before .put-pes-file .ensures)
+
+pub pes-accepted-spec : {M : Type 1} → statement M
+pes-accepted-spec =
+    tie.close
+    (tie.spec
+    measured-requires
+    pec-len-requires
+    blocks-len-requires
+    add-long
+    part-len-requires
+    add-long-2
+    returns
+    put-pes-file-requires
+    same-length
+    returns-2)

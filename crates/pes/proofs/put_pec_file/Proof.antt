@@ -1,0 +1,40 @@
+-- The signature, and then the part.
+use native.Mathlib.Omega.{arith}
+use denote.Ref.{now}
+use Rattle.rules.specs.Lists.{commands, threadsOf}
+use Rattle.rules.specs.Pec.{pecFile}
+use Rattle.laws.specs.Buffers.{put-put, put-length}
+use Rattle.laws.specs.Lengths.{pec-length}
+use borrow.Author.Needs.{needs}
+use Rattle.pes.proofs.put_pec_file.Statement.{statement}
+use Rattle.pes.proofs.put_pec_file.Tie as tie
+
+slice-aggregate-put-text : tie.Need-slice-aggregate-put-text
+slice-aggregate-put-text c = search needs
+
+put-text-requires : tie.Need-put-text-requires
+put-text-requires c κs =
+    let a = c .before .before .before .before .before .before .args in
+    let cs = commands (now (a .xs)) (now (a .ys)) (now (a .kinds)) in
+    let ts = threadsOf (now (a .threads)) in
+    omega (arith, pec-length (now (a .name)) cs ts, c .before .before .before .before .before .before .pre .1)
+
+write-pec-requires : tie.Need-write-pec-requires
+write-pec-requires c κs =
+    let a = c .before .before .before .before .before .before .before .before .before .before .args in
+    let cs = commands (now (a .xs)) (now (a .ys)) (now (a .kinds)) in
+    let ts = threadsOf (now (a .threads)) in
+    let g = c .before .before .before .before .before .before .before .before .before .before .pre .0 in
+    ((g .long, (g .few, g .steps)), (g .bytes, omega (arith, pec-length (now (a .name)) cs ts, put-length (c .before .before .before .put-text .ensures), c .before .before .before .before .before .before .before .before .before .before .pre .1)))
+
+same-length : tie.Need-same-length
+same-length c = search needs
+
+returns : tie.Need-returns
+unfolding pecFile
+returns c = put-put (c .before .before .before .before .before .before .put-text .ensures) (c .before .before .write-pec .ensures)
+
+pub put-pec-file-spec : {M : Type 1} → statement M
+put-pec-file-spec =
+    tie.close
+    (tie.spec slice-aggregate-put-text put-text-requires write-pec-requires same-length returns)

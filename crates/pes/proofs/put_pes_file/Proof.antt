@@ -1,0 +1,68 @@
+-- The start, the blocks and the part.
+use Prim.Native.Nat.{ℕ, _+_}
+use mathlib.Core.Path.{ap, _∙_}
+use denote.Ref.{now}
+use Rattle.rules.specs.Lists.{commands, threadsOf}
+use Rattle.laws.specs.Buffers.{put-as, put-put}
+use Rattle.pes.proofs.Files.{start-long, file-as, room-start, room-blocks, room-part}
+use borrow.Author.Needs.{needs}
+use Rattle.pes.proofs.put_pes_file.Statement.{statement}
+use Rattle.pes.proofs.put_pes_file.Tie as tie
+
+blocks-len-requires : tie.Need-blocks-len-requires
+blocks-len-requires c κs = search needs
+
+add-put-start : tie.Need-add-put-start
+add-put-start c = search needs
+
+cast-put-start : tie.Need-cast-put-start
+cast-put-start c = search needs
+
+put-start-requires : tie.Need-put-start-requires
+put-start-requires c κs =
+    let a = c .before .before .before .before .before .before .args in
+    let cs = commands (now (a .xs)) (now (a .ys)) (now (a .kinds)) in
+    let ts = threadsOf (now (a .threads)) in
+    room-start (now (a .name)) cs ts (now (a .out)) (c .before .before .before .before .before .before .pre .1 .1)
+
+write-pes-blocks-requires : tie.Need-write-pes-blocks-requires
+write-pes-blocks-requires c κs =
+    let a = c .before .before .before .before .before .before .before .before .before .before .args in
+    let cs = commands (now (a .xs)) (now (a .ys)) (now (a .kinds)) in
+    let ts = threadsOf (now (a .threads)) in
+    let p = c .before .before .before .before .before .before .before .before .before .before .pre in
+    ((p .0 .long, p .1 .0 .0), (p .1 .0 .1 .0, room-blocks (now (a .name)) cs ts (now (a .out)) (p .1 .1) _ (c .before .before .before .put-start .ensures)))
+
+write-pec-requires : tie.Need-write-pec-requires
+write-pec-requires c κs =
+    let a = c .before .before .before .before .before .before .before .before .before .before .before .before .before .before .args in
+    let cs = commands (now (a .xs)) (now (a .ys)) (now (a .kinds)) in
+    let ts = threadsOf (now (a .threads)) in
+    let p = c .before .before .before .before .before .before .before .before .before .before .before .before .before .before .pre in
+    let g = p .0 in
+    ((g .long, (g .few, g .steps)), (g .bytes, room-part (now (a .name)) cs ts (now (a .out)) (p .1 .1) _ (c .before .before .before .before .before .before .before .put-start .ensures) (c .before .before .before .write-pes-blocks .ensures)))
+
+same-length : tie.Need-same-length
+same-length c = search needs
+
+returns : tie.Need-returns
+returns c =
+    let a = c .before .before .before .before .before .before .before .before .before .before .before .before .before .before .before .before .before .args in
+    let cs = commands (now (a .xs)) (now (a .ys)) (now (a .kinds)) in
+    let ts = threadsOf (now (a .threads)) in
+    let p = c .before .before .before .before .before .before .before .before .before .before .before .before .before .before .before .before .before .pre in
+    let e = ap (λ (n : ℕ). 22 + n) (c .before .before .before .before .before .before .before .before .before .before .before .before .blocks-len .ensures .0) ∙ start-long cs ts (a .z) (p .1 .0 .1 .0) in
+    put-as (put-put (c .before .before .before .before .before .before .before .before .before .before .put-start .ensures) (put-put (c .before .before .before .before .before .before .write-pes-blocks .ensures) (c .before .before .write-pec .ensures))) (file-as (now (a .name)) cs ts e)
+
+pub put-pes-file-spec : {M : Type 1} → statement M
+put-pes-file-spec =
+    tie.close
+    (tie.spec
+    blocks-len-requires
+    add-put-start
+    cast-put-start
+    put-start-requires
+    write-pes-blocks-requires
+    write-pec-requires
+    same-length
+    returns)

@@ -1,0 +1,167 @@
+// PEC and PES files.
+use checks::check_list;
+use emit::put_short;
+use emit::put_text;
+use emit::put_word;
+use pec::pec_len;
+use pec_part::part_len;
+use pec_part::write_pec;
+use pes_blocks::blocks_len;
+use pes_blocks::write_pes_blocks;
+use rules::Format;
+use rules::Refusal;
+use rules::Verdict;
+use rules::WriteAnswer;
+use sections::Sizes;
+use sections::measured;
+ghost use mathlib.Core.Path.{_≡_};
+ghost use mathlib.Core.Bool.{false};
+ghost use mathlib.Core.List.{[], _∷_};
+ghost use Prim.Native.Nat.{_+_, _*_, _≤_};
+ghost use lib.IntN.{pos};
+ghost use lib.ListN.{length};
+ghost use Rattle.rules.specs.Files.{writeVerdict, writeAnswer, filled, fileOf};
+ghost use Rattle.rules.specs.Lists.{commands, threadsOf};
+ghost use Rattle.rules.specs.Pec.{pecStart, pecStitches, pecFile};
+ghost use Rattle.rules.specs.Pes.{shorts, pesFile};
+ghost use Rattle.rules.specs.Refusals.{placeOutside, stepTooLong};
+ghost use Rattle.rules.specs.declared.Extension.the-variants.{Of};
+ghost use Rattle.rules.specs.declared.Format.the-variants.{Pes, Pec};
+ghost use Rattle.laws.specs.Buffers.{Put};
+ghost use Rattle.emit.specs.Answered.{Answered};
+ghost use Rattle.sections.specs.States.{measures};
+ghost use Rattle.pes.specs.Lists.{Drawn, startText};
+
+// A whole PEC file; n is how many bytes the stitches take.
+fn put_pec_file(
+    name: &[u8],
+    xs: &[i32],
+    ys: &[i32],
+    kinds: &[u8],
+    threads: &[u8],
+    n: usize,
+    out: &mut [u8],
+) -> usize
+    requires { ⌜ Drawn (commands (now xs) (now ys) (now kinds)) (now kinds) (now threads) n ⌝ }
+    requires { ⌜ length (pecFile (now name) (commands (now xs) (now ys) (now kinds)) (threadsOf (now threads))) ≤ length (now out) ⌝ }
+    ensures { λ r. ⌜ Put (now (out .entry)) (now (out .exit)) 0 r (pecFile (now (name .entry)) (commands (now (xs .entry)) (now (ys .entry)) (now (kinds .entry))) (threadsOf (now (threads .entry)))) ⌝ }
+{
+    let part = put_text(out, 0, b"#PEC0001");
+    write_pec(name, xs, ys, kinds, threads, n, out, part)
+}
+
+// The file, or refusal 11.
+fn pec_accepted(
+    name: &[u8],
+    xs: &[i32],
+    ys: &[i32],
+    kinds: &[u8],
+    threads: &[u8],
+    out: &mut [u8],
+) -> WriteAnswer
+    requires { ⌜ (length (now kinds) ≤ 65535) × ((length (now threads) ≤ 765) × (stepTooLong Pec (commands (now xs) (now ys) (now kinds)) ≡ false)) ⌝ }
+    ensures { λ r. ⌜ Answered (pecFile (now (name .entry)) (commands (now (xs .entry)) (now (ys .entry)) (now (kinds .entry))) (threadsOf (now (threads .entry)))) (now (out .entry)) (now (out .exit)) r ⌝ }
+{
+    let n = pec_len(xs, ys, kinds);
+    let long = 8 + part_len(xs, ys, kinds, threads, n);
+    if out.len() < long {
+        return WriteAnswer::Unwritten(Refusal::BufferTooShort);
+    }
+    WriteAnswer::Written(put_pec_file(name, xs, ys, kinds, threads, n, out))
+}
+
+// Writes a list as a PEC file to the front of the buffer: its length; or why it is refused, and the buffer as it was.
+pub fn write_pec_file(
+    name: &[u8],
+    xs: &[i32],
+    ys: &[i32],
+    kinds: &[u8],
+    threads: &[u8],
+    out: &mut [u8],
+) -> WriteAnswer
+    ensures { λ r. ⌜ r ≡ writeAnswer (writeVerdict (Of Pec) (now (name .entry)) (now (xs .entry)) (now (ys .entry)) (now (kinds .entry)) (now (threads .entry)) (length (now (out .entry)))) (length (fileOf Pec (now (name .entry)) (commands (now (xs .entry)) (now (ys .entry)) (now (kinds .entry))) (now (threads .entry)))) ⌝ }
+    ensures { λ _. ⌜ now (out .exit) ≡ filled (writeVerdict (Of Pec) (now (name .entry)) (now (xs .entry)) (now (ys .entry)) (now (kinds .entry)) (now (threads .entry)) (length (now (out .entry)))) (fileOf Pec (now (name .entry)) (commands (now (xs .entry)) (now (ys .entry)) (now (kinds .entry))) (now (threads .entry))) (now (out .entry)) ⌝ }
+{
+    let checked = check_list(Format::Pec, xs, ys, kinds, threads);
+    match checked {
+        Verdict::Accepted => pec_accepted(name, xs, ys, kinds, threads, out),
+        Verdict::Refused(why) => WriteAnswer::Unwritten(why),
+    }
+}
+
+// The signature, the start of the PEC part, 1, 1, 1, 0xFFFF, 0.
+fn put_start(start: u32, out: &mut [u8]) -> usize
+    requires { ⌜ 22 ≤ length (now out) ⌝ }
+    ensures { λ r. ⌜ Put (now (out .entry)) (now (out .exit)) 0 r (startText start) ⌝ }
+{
+    let word = put_text(out, 0, b"#PES0001");
+    let first = put_word(out, word, start);
+    let second = put_short(out, first, 1);
+    let third = put_short(out, second, 1);
+    let fourth = put_short(out, third, 1);
+    let fifth = put_short(out, fourth, 0xFFFF);
+    put_short(out, fifth, 0)
+}
+
+// A whole PES file; z holds the sizes of its sections, and n is how many bytes the stitches take.
+fn put_pes_file(
+    name: &[u8],
+    xs: &[i32],
+    ys: &[i32],
+    kinds: &[u8],
+    threads: &[u8],
+    z: Sizes,
+    n: usize,
+    out: &mut [u8],
+) -> usize
+    requires { ⌜ Drawn (commands (now xs) (now ys) (now kinds)) (now kinds) (now threads) n ⌝ }
+    requires { ⌜ (placeOutside (commands (now xs) (now ys) (now kinds)) ≡ false) × ((measures (threadsOf (now threads)) (commands (now xs) (now ys) (now kinds)) z) × ((z .bytes ≤ 1048560) × (z .logged ≤ 65535))) ⌝ }
+    requires { ⌜ length (pesFile (now name) (commands (now xs) (now ys) (now kinds)) (threadsOf (now threads))) ≤ length (now out) ⌝ }
+    ensures { λ r. ⌜ Put (now (out .entry)) (now (out .exit)) 0 r (pesFile (now (name .entry)) (commands (now (xs .entry)) (now (ys .entry)) (now (kinds .entry))) (threadsOf (now (threads .entry)))) ⌝ }
+{
+    let long = blocks_len(z);
+    let blocks = put_start((22 + long) as u32, out);
+    let part = write_pes_blocks(xs, ys, kinds, threads, z, out, blocks);
+    write_pec(name, xs, ys, kinds, threads, n, out, part)
+}
+
+// The file, or refusal 11.
+fn pes_accepted(
+    name: &[u8],
+    xs: &[i32],
+    ys: &[i32],
+    kinds: &[u8],
+    threads: &[u8],
+    out: &mut [u8],
+) -> WriteAnswer
+    requires { ⌜ (length (now kinds) ≤ 65535) × ((length (now threads) ≤ 765) × (stepTooLong Pes (commands (now xs) (now ys) (now kinds)) ≡ false)) ⌝ }
+    requires { ⌜ placeOutside (commands (now xs) (now ys) (now kinds)) ≡ false ⌝ }
+    ensures { λ r. ⌜ Answered (pesFile (now (name .entry)) (commands (now (xs .entry)) (now (ys .entry)) (now (kinds .entry))) (threadsOf (now (threads .entry)))) (now (out .entry)) (now (out .exit)) r ⌝ }
+{
+    let z = measured(threads, xs, ys, kinds);
+    let n = pec_len(xs, ys, kinds);
+    let long = 22 + blocks_len(z) + part_len(xs, ys, kinds, threads, n);
+    if out.len() < long {
+        return WriteAnswer::Unwritten(Refusal::BufferTooShort);
+    }
+    WriteAnswer::Written(put_pes_file(name, xs, ys, kinds, threads, z, n, out))
+}
+
+// Writes a list as a PES file to the front of the buffer: its length; or why it is refused, and the buffer as it was.
+pub fn pes_from_stream(
+    name: &[u8],
+    xs: &[i32],
+    ys: &[i32],
+    kinds: &[u8],
+    threads: &[u8],
+    out: &mut [u8],
+) -> WriteAnswer
+    ensures { λ r. ⌜ r ≡ writeAnswer (writeVerdict (Of Pes) (now (name .entry)) (now (xs .entry)) (now (ys .entry)) (now (kinds .entry)) (now (threads .entry)) (length (now (out .entry)))) (length (fileOf Pes (now (name .entry)) (commands (now (xs .entry)) (now (ys .entry)) (now (kinds .entry))) (now (threads .entry)))) ⌝ }
+    ensures { λ _. ⌜ now (out .exit) ≡ filled (writeVerdict (Of Pes) (now (name .entry)) (now (xs .entry)) (now (ys .entry)) (now (kinds .entry)) (now (threads .entry)) (length (now (out .entry)))) (fileOf Pes (now (name .entry)) (commands (now (xs .entry)) (now (ys .entry)) (now (kinds .entry))) (now (threads .entry))) (now (out .entry)) ⌝ }
+{
+    let checked = check_list(Format::Pes, xs, ys, kinds, threads);
+    match checked {
+        Verdict::Accepted => pes_accepted(name, xs, ys, kinds, threads, out),
+        Verdict::Refused(why) => WriteAnswer::Unwritten(why),
+    }
+}

@@ -1,0 +1,42 @@
+-- The parts in a row.
+use denote.Ref.{now}
+use Rattle.rules.specs.Vocabulary.{little, joined}
+use Rattle.rules.specs.Lists.{commands, threadsOf}
+use Rattle.rules.specs.Pes.{shorts}
+use Rattle.laws.specs.Buffers.{put-put, put-nothing}
+use Rattle.pes_blocks.proofs.Whole.{room-count, room-log, room-zeros}
+use borrow.Author.Needs.{needs}
+use Rattle.pes_blocks.proofs.put_end.Statement.{statement}
+use Rattle.pes_blocks.proofs.put_end.Tie as tie
+
+put-short-requires : tie.Need-put-short-requires
+put-short-requires c κs =
+    let a = c .before .before .before .before .args in
+    let cs = commands (now (a .xs)) (now (a .ys)) (now (a .kinds)) in
+    let ts = threadsOf (now (a .threads)) in
+    room-count (a .n) ts cs (now (a .out)) (a .at) (c .before .before .before .before .pre .1)
+
+put-log-requires : tie.Need-put-log-requires
+put-log-requires c κs =
+    let a = c .before .before .before .before .before .before .before .before .args in
+    let cs = commands (now (a .xs)) (now (a .ys)) (now (a .kinds)) in
+    let ts = threadsOf (now (a .threads)) in
+    (c .before .before .before .before .before .before .before .before .pre .0, room-log (a .n) ts cs (now (a .out)) (a .at) (c .before .before .before .before .before .before .before .before .pre .1) (c .before .before .before .put-short .ensures))
+
+put-times-requires : tie.Need-put-times-requires
+put-times-requires c κs =
+    let a = c .before .before .before .before .before .before .before .before .before .before .before .before .args in
+    let cs = commands (now (a .xs)) (now (a .ys)) (now (a .kinds)) in
+    let ts = threadsOf (now (a .threads)) in
+    room-zeros (a .n) ts cs (now (a .out)) (a .at) (c .before .before .before .before .before .before .before .before .before .before .before .before .pre .1) (c .before .before .before .before .before .before .before .put-short .ensures) (c .before .before .before .put-log .ensures)
+
+same-length : tie.Need-same-length
+same-length c = search needs
+
+returns : tie.Need-returns
+unfolding joined shorts little
+returns c = put-put (c .before .before .before .before .before .before .before .before .before .before .put-short .ensures) (put-put (c .before .before .before .before .before .before .put-log .ensures) (put-put (c .before .before .put-times .ensures) (put-nothing _ _)))
+
+pub put-end-spec : {M : Type 1} → statement M
+put-end-spec =
+    tie.close (tie.spec put-short-requires put-log-requires put-times-requires same-length returns)

@@ -1,0 +1,38 @@
+-- Two steps by the tests that the code makes.
+use mathlib.Core.Path.{sym}
+use Rattle.records.proofs.Pecs.{both-first, both-second, both-stitch, both-jump}
+use borrow.Author.Needs.{needs}
+use Rattle.records.proofs.steps.pair_of.Statement.{statement}
+use Rattle.records.proofs.steps.pair_of.Tie as tie
+
+returns : tie.Need-returns
+returns c = let a = c .before .before .args in sym (both-first (a .x) (a .y) (c .if1 .taken))
+
+returns-2 : tie.Need-returns-2
+returns-2 c = let a = c .before .before .before .before .args in sym (both-second (a .x) (a .y) (c .before .before .if1 .left) (c .if2 .taken))
+
+add-if3 : tie.Need-add-if3
+add-if3 c = search needs
+
+add-t5 : tie.Need-add-t5
+add-t5 c = search needs
+
+returns-3 : tie.Need-returns-3
+returns-3 c =
+    let a = c .before .before .before .before .before .before .before .before .before .before .before .args in
+    rw
+    (both-stitch (a .x) (a .y) (c .before .before .before .before .before .before .before .before .before .if1 .left) (c .before .before .before .before .before .before .before .if2 .left) (c .before .before .before .before .if3 .taken))
+    (search needs)
+
+add-t6 : tie.Need-add-t6
+add-t6 c = search needs
+
+returns-4 : tie.Need-returns-4
+returns-4 c =
+    let a = c .before .before .before .before .before .before .before .before .before .before .before .args in
+    rw
+    (both-jump (a .x) (a .y) (c .before .before .before .before .before .before .before .before .before .if1 .left) (c .before .before .before .before .before .before .before .if2 .left) (c .before .before .before .before .if3 .left))
+    (search needs)
+
+pub pair-of-spec : {M : Type 1} → statement M
+pair-of-spec = tie.close (tie.spec returns returns-2 add-if3 add-t5 returns-3 add-t6 returns-4)

@@ -1,0 +1,72 @@
+-- Too few bytes, or the record of three.
+use native.Mathlib.Omega.{arith}
+use mathlib.Core.Path.{sym}
+use denote.Ref.{now}
+use mir.Syntax.{w32}
+use Rattle.laws.specs.Ints.{ret}
+use Rattle.records.proofs.Dsts.{dst-short, dst-whole}
+use borrow.Author.Needs.{needs}
+use Rattle.records.proofs.triples.dst_record.Statement.{statement}
+use Rattle.records.proofs.triples.dst_record.Tie as tie
+
+returns : tie.Need-returns
+returns c = let a = c .before .before .args in sym (dst-short (now (a .file)) (a .at) (omega arith))
+
+sub-if2 : tie.Need-sub-if2
+sub-if2 c = search needs
+
+returns-2 : tie.Need-returns-2
+returns-2 c = let a = c .before .before .before .args in sym (dst-short (now (a .file)) (a .at) (omega arith))
+
+shared-slice-read-a : tie.Need-shared-slice-read-a
+shared-slice-read-a c = search needs
+
+add-b : tie.Need-add-b
+add-b c = search needs
+
+shared-slice-read-b : tie.Need-shared-slice-read-b
+shared-slice-read-b c = search needs
+
+add-c : tie.Need-add-c
+add-c c = search needs
+
+shared-slice-read-c : tie.Need-shared-slice-read-c
+shared-slice-read-c c = search needs
+
+dst-dx-requires : tie.Need-dst-dx-requires
+dst-dx-requires c κs = search needs
+
+dst-dy-requires : tie.Need-dst-dy-requires
+dst-dy-requires c κs = search needs
+
+kind-requires : tie.Need-kind-requires
+kind-requires c κs = search needs
+
+returns-3 : tie.Need-returns-3
+returns-3 c =
+    let a = c .before .before .before .before .before .before .before .before .before .args in
+    rw (
+      c .kind .ensures,
+      ret w32 (c .before .before .dst-dx .result) (c .before .before .dst-dx .ok),
+      c .before .before .dst-dx .ensures,
+      ret w32 (c .before .dst-dy .result) (c .before .dst-dy .ok),
+      c .before .dst-dy .ensures,
+    )
+    (sym (dst-whole (now (a .file)) (a .at) (omega arith)))
+
+pub dst-record-spec : {M : Type 1} → statement M
+dst-record-spec =
+    tie.close
+    (tie.spec
+    returns
+    sub-if2
+    returns-2
+    shared-slice-read-a
+    add-b
+    shared-slice-read-b
+    add-c
+    shared-slice-read-c
+    dst-dx-requires
+    dst-dy-requires
+    kind-requires
+    returns-3)

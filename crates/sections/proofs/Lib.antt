@@ -1,0 +1,7 @@
+-- Lemmas for the sections and the log.
+pub mod Runs
+pub mod Points
+pub mod Lengths
+pub mod Shorts
+pub mod Steps
+pub mod Stream

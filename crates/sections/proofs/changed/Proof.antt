@@ -1,0 +1,32 @@
+-- A new run takes the next thread's entry; any other colour change keeps all but the kind before.
+use mir.Syntax.{w32}
+use Rattle.rules.specs.Pes.{pesNext}
+use Rattle.laws.specs.Ints.{ret}
+use borrow.Author.Needs.{needs}
+use Rattle.sections.proofs.changed.Statement.{statement}
+use Rattle.sections.proofs.changed.Tie as tie
+
+thread-code-requires : tie.Need-thread-code-requires
+thread-code-requires c κs = search needs
+
+add-t11 : tie.Need-add-t11
+add-t11 c = search needs
+
+returns : tie.Need-returns
+unfolding pesNext
+returns c =
+    let s = c .before .before .before .before .args .s in
+    let x = ret w32 (s .x) (search (needs, c .struct-told .given)) in
+    let y = ret w32 (s .y) (search (needs, c .struct-told .given)) in
+    rw (x, y, c .before .before .if1 .taken, c .before .thread-code .ensures)
+
+returns-2 : tie.Need-returns-2
+unfolding pesNext
+returns-2 c =
+    let s = c .before .before .before .args .s in
+    let x = ret w32 (s .x) (search (needs, c .struct-told2 .given)) in
+    let y = ret w32 (s .y) (search (needs, c .struct-told2 .given)) in
+    rw (x, y, c .before .if1 .left)
+
+pub changed-spec : {M : Type 1} → statement M
+changed-spec = tie.close (tie.spec thread-code-requires add-t11 returns returns-2)

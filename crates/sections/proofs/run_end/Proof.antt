@@ -1,0 +1,79 @@
+-- The place reached and what is left of the run from there come to where the run ends.
+use mathlib.Core.Path.{_≡_, refl}
+use Prim.Native.Nat.{_+_, _-_}
+use native.Mathlib.Omega.{arith}
+use denote.Ref.{now}
+use lib.ListN.{length, drop, getD}
+use Rattle.rules.specs.Lists.{commands}
+use Rattle.rules.specs.Pes.{runLength}
+use Rattle.laws.specs.Listing.{length-commands}
+use Rattle.sections.proofs.Runs.{run-more, run-stops, run-none}
+use Rattle.sections.proofs.run_end.Statement.{statement}
+use Rattle.sections.proofs.run_end.Tie as tie
+
+abbrev Inv-loop : tie.InvT-loop
+Inv-loop xs ys kinds from n kind i₀ i =
+    let cs = commands xs ys kinds in
+    (n ≡ length cs) × (i + runLength kind (drop i cs) ≡ from + runLength kind (drop from cs))
+
+abbrev μ-loop : tie.MeasureT-loop
+μ-loop xs ys kinds from n kind i₀ i = n - i
+
+list-len-requires : tie.Need-list-len-requires Inv-loop μ-loop
+list-len-requires c κs = tt
+
+shared-slice-read-kind : tie.Need-shared-slice-read-kind Inv-loop μ-loop
+shared-slice-read-kind c =
+    let a = c .before .before .before .args in
+    omega (arith, length-commands (now (a .xs)) (now (a .ys)) (now (a .kinds)))
+
+loop-holds : tie.Need-loop-holds Inv-loop μ-loop
+loop-holds c = (c .before .list-len .ensures, refl)
+
+shared-slice-read-if1 : tie.Need-shared-slice-read-if1 Inv-loop μ-loop
+shared-slice-read-if1 c =
+    let a = c .before .before .before .before .before .before .args in
+    omega (arith, length-commands (now (a .xs)) (now (a .ys)) (now (a .kinds)))
+
+returns : tie.Need-returns Inv-loop μ-loop
+returns c =
+    let a = c .before .before .before .before .before .before .before .args in
+    let loop = c .before .before .before .loop in
+    let stop = run-stops (now (a .xs)) (now (a .ys)) (now (a .kinds)) (loop .i) (getD (now (a .kinds)) (a .from) 0) (omega arith) (c .if1 .taken) in
+    omega (arith, stop, loop .inv .1)
+
+add-i : tie.Need-add-i Inv-loop μ-loop
+add-i c = omega arith
+
+loop-less : tie.Need-loop-less Inv-loop μ-loop
+loop-less c = omega arith
+
+loop-again : tie.Need-loop-again Inv-loop μ-loop
+loop-again c =
+    let a = c .before .before .before .before .before .before .before .args in
+    let loop = c .before .before .before .loop in
+    let more = run-more (now (a .xs)) (now (a .ys)) (now (a .kinds)) (loop .i) (getD (now (a .kinds)) (a .from) 0) (omega arith) (c .if1 .left) in
+    (loop .inv .0, omega (arith, more, loop .inv .1))
+
+returns-2 : tie.Need-returns-2 Inv-loop μ-loop
+returns-2 c =
+    let a = c .before .before .before .before .before .args in
+    let loop = c .before .loop in
+    let none = run-none (now (a .xs)) (now (a .ys)) (now (a .kinds)) (loop .i) (getD (now (a .kinds)) (a .from) 0) (omega arith) in
+    omega (arith, none, loop .inv .1)
+
+pub run-end-spec : {M : Type 1} → statement M
+run-end-spec =
+    tie.close
+    (tie.spec
+    Inv-loop
+    μ-loop
+    list-len-requires
+    shared-slice-read-kind
+    loop-holds
+    shared-slice-read-if1
+    returns
+    add-i
+    loop-less
+    loop-again
+    returns-2)

@@ -1,0 +1,15 @@
+-- No command yet: the first thread's entry, and an end before.
+use borrow.Author.Needs.{needs}
+use Rattle.rules.specs.Pes.{pesStart}
+use Rattle.sections.proofs.start.Statement.{statement}
+use Rattle.sections.proofs.start.Tie as tie
+
+thread-code-requires : tie.Need-thread-code-requires
+thread-code-requires c κs = search needs
+
+returns : tie.Need-returns
+unfolding pesStart
+returns c = rw (c .thread-code .ensures)
+
+pub start-spec : {M : Type 1} → statement M
+start-spec = tie.close (tie.spec thread-code-requires returns)

@@ -1,0 +1,220 @@
+-- Demand 3 about the calls `write` and `read`: for every list accepted for a format, any name, any threads and buffers long enough, neither call
+-- refuses, and what the caller finds in the buffers sews what the list sews. Of two lists, in one format or two: equal sewings come back exactly
+-- when the lists sew the same. Assumes nothing.
+use mathlib.Core.Path.{_≡_, refl, sym, _∙_}
+use mathlib.Core.Logic.{_↔_}
+use mathlib.Core.List.{List, [], _∷_, _++_}
+use Prim.Native.Nat.{ℕ, zero, suc, _+_, _*_, _≤_}
+use native.Mathlib.Omega.{arith}
+use borrow.Author.Tests.{le-ltb}
+use lib.IntN.{ℤ, pos, _+ℤ_}
+use lib.ListN.{length, take, drop, length-append}
+use lib.Seq.{take-append-seam}
+use Rattle.rules.specs.Answers.{pointsAfter, startOf, places, blockOf, begunAfter, blocks, pointTotal, blockTotal}
+use Rattle.rules.specs.Lists.{commands}
+use Rattle.rules.specs.Records.{Event, stitch, jump, change}
+use Rattle.rules.specs.Refusals.{extensionOf, verdict, listRefusals, listVerdict}
+use Rattle.rules.specs.Files.{fileOf, eventsOf, colourOf, placesOf, runsOf, blocksOf, readVerdict, placesTold, runsTold, blocksTold, countsOf, readAnswer, readNumber, readCounts, filled, fileTold, writeVerdict, writeAnswer, writeNumber, writeLength}
+use Rattle.rules.specs.Sewing.{Entry, listSewing, fileSewing, toldSewing}
+use Rattle.rules.specs.declared.Cmd.{Cmd}
+use Rattle.rules.specs.declared.Extension.the-variants.{Of}
+use Rattle.rules.specs.declared.Format.{Format}
+use Rattle.rules.specs.declared.ReadAnswer.{ReadAnswer}
+use Rattle.rules.specs.declared.ReadAnswer.the-variants.{Read}
+use Rattle.rules.specs.declared.Verdict.the-variants.{Accepted}
+use Rattle.rules.specs.declared.WriteAnswer.{WriteAnswer}
+use Rattle.rules.specs.declared.WriteAnswer.the-variants.{Written}
+use Rattle.laws.specs.Verdicts.{verdict-on}
+use Rattle.sewing.specs.Theorem.{kept, read-accepted}
+
+-- ---- what the calls promise, for every input
+
+-- `write` with the buffer d before and d′ after it answers w
+pub record Wrote (ext name : List ℕ) (xs ys : List ℤ) (kinds threads d d′ : List ℕ) (w : WriteAnswer) : Type 0 where
+  pub told : w ≡ writeAnswer (writeVerdict (extensionOf ext) name xs ys kinds threads (length d)) (length (fileTold (extensionOf ext) name (commands xs ys kinds) threads))
+  pub stored : d′ ≡ filled (writeVerdict (extensionOf ext) name xs ys kinds threads (length d)) (fileTold (extensionOf ext) name (commands xs ys kinds) threads) d
+
+-- `read` of a file answers r
+pub record ReadOf (ext file : List ℕ) (ps ps′ : List ℤ) (rs rs′ bs bs′ : List ℕ) (r : ReadAnswer) : Type 0 where
+  pub told : r ≡ readAnswer (readVerdict (extensionOf ext) file (length ps) (length rs) (length bs)) (countsOf (placesTold (extensionOf ext) file) (runsTold (extensionOf ext) file) (blocksTold (extensionOf ext) file))
+  pub places : ps′ ≡ filled (readVerdict (extensionOf ext) file (length ps) (length rs) (length bs)) (placesTold (extensionOf ext) file) ps
+  pub runs : rs′ ≡ filled (readVerdict (extensionOf ext) file (length ps) (length rs) (length bs)) (runsTold (extensionOf ext) file) rs
+  pub blocks : bs′ ≡ filled (readVerdict (extensionOf ext) file (length ps) (length rs) (length bs)) (blocksTold (extensionOf ext) file) bs
+
+-- buffers that hold a file and the answer of its read
+pub record Room (f : Format) (file d : List ℕ) (ps : List ℤ) (rs bs : List ℕ) : Type 0 where
+  pub bytes : length file ≤ length d
+  pub places : length (placesOf f file) ≤ length ps
+  pub runs : length (runsOf f file) ≤ length rs
+  pub blocks : length (blocksOf f file) ≤ length bs
+
+-- A list accepted for a format, written into a buffer that is long enough; the file is the front bytes of the length told. It is read under
+-- the same extension, with buffers that hold the answer.
+pub record RoundTrip : Type 0 where
+  pub format : Format
+  pub ext : List ℕ
+  pub name : List ℕ
+  pub xs : List ℤ
+  pub ys : List ℤ
+  pub kinds : List ℕ
+  pub threads : List ℕ
+  pub d : List ℕ
+  pub d′ : List ℕ
+  pub ps : List ℤ
+  pub ps′ : List ℤ
+  pub rs : List ℕ
+  pub rs′ : List ℕ
+  pub bs : List ℕ
+  pub bs′ : List ℕ
+  pub w : WriteAnswer
+  pub r : ReadAnswer
+  pub named : extensionOf ext ≡ Of format
+  pub accepted : listVerdict format xs ys kinds threads ≡ Accepted
+  pub room : Room format (fileOf format name (commands xs ys kinds) threads) d ps rs bs
+  pub wrote : Wrote ext name xs ys kinds threads d d′ w
+  pub reads : ReadOf ext (take (writeLength w) d′) ps ps′ rs rs′ bs bs′ r
+
+-- the list's sewing, and the sewing that comes back
+abbrev pub sewing : RoundTrip → List Entry
+sewing t = listSewing (commands (t .xs) (t .ys) (t .kinds))
+
+abbrev pub back : RoundTrip → List Entry
+back t = toldSewing (readCounts (t .r)) (t .ps′) (t .rs′) (t .bs′)
+
+-- neither call refuses, and the sewing that comes back is the list's
+pub record Sewn (t : RoundTrip) : Type 0 where
+  pub written : writeNumber (t .w) ≡ 0
+  pub read : readNumber (t .r) ≡ 0
+  pub same : back t ≡ sewing t
+
+-- ---- counts and cells: two cells a point, three a block
+
+-- k cells for each
+abbrev Rows : ℕ → ℕ → Type 0
+Rows k n = (m : ℕ) × (n ≡ k * m)
+
+start-even : (n : ℕ) (x y : ℤ) → Rows 2 (length (startOf n x y))
+unfolding startOf
+start-even zero x y = (1, refl)
+start-even (suc n) x y = (0, refl)
+
+places-even : (x y : ℤ) (n : ℕ) (es : List Event) → Rows 2 (length (places x y n es))
+unfolding places
+places-even x y n [] = (0, refl)
+places-even x y n (stitch dx dy ∷ es) =
+    let a = start-even n x y in
+    let b = places-even (x +ℤ dx) (y +ℤ dy) (pointsAfter n) es in
+    (a .0 + (1 + b .0), omega (arith, length-append (startOf n x y) ((x +ℤ dx) ∷ (y +ℤ dy) ∷ places (x +ℤ dx) (y +ℤ dy) (pointsAfter n) es), a .1, b .1))
+places-even x y n (jump dx dy ∷ es) = places-even (x +ℤ dx) (y +ℤ dy) 0 es
+places-even x y n (change dx dy ∷ es) = places-even (x +ℤ dx) (y +ℤ dy) 0 es
+
+block-three : (colour : ℕ → ℕ) (k m : ℕ) → Rows 3 (length (blockOf colour k m))
+unfolding blockOf
+block-three colour k zero = (0, refl)
+block-three colour k (suc m) = (1, refl)
+
+blocks-three : (colour : ℕ → ℕ) (k m n : ℕ) (es : List Event) → Rows 3 (length (blocks colour k m n es))
+unfolding blocks
+blocks-three colour k m n [] = block-three colour k m
+blocks-three colour k m n (stitch dx dy ∷ es) = blocks-three colour k (begunAfter n m) (pointsAfter n) es
+blocks-three colour k m n (jump dx dy ∷ es) = blocks-three colour k m 0 es
+blocks-three colour k m n (change dx dy ∷ es) =
+    let a = block-three colour k m in
+    let b = blocks-three colour (suc k) 0 0 es in
+    (a .0 + b .0, omega (arith, length-append (blockOf colour k m) (blocks colour (suc k) 0 0 es), a .1, b .1))
+
+module _ (f : Format) (s : List ℕ) where
+  points-cells : 2 * pointTotal (placesOf f s) ≡ length (placesOf f s)
+  unfolding pointTotal placesOf
+  points-cells = omega (arith, places-even (pos 0) (pos 0) 0 (eventsOf f s) .1)
+
+  blocks-cells : 3 * blockTotal (blocksOf f s) ≡ length (blocksOf f s)
+  unfolding blockTotal blocksOf
+  blocks-cells = omega (arith, blocks-three (colourOf f s) 0 0 0 (eventsOf f s) .1)
+
+-- the front of a buffer with an answer at its front
+pub front : {A : Type 0} (answer l : List A) (n : ℕ) → n ≡ length answer → take n (answer ++ drop (length answer) l) ≡ answer
+front answer l n e = rw e (take-append-seam answer (drop (length answer) l))
+
+-- ---- the claim
+
+pub write-accepts : (f : Format) (ext name : List ℕ) (xs ys : List ℤ) (kinds threads : List ℕ) (n : ℕ) → extensionOf ext ≡ Of f → listVerdict f xs ys kinds threads ≡ Accepted
+    → length (fileOf f name (commands xs ys kinds) threads) ≤ n → writeVerdict (extensionOf ext) name xs ys kinds threads n ≡ Accepted
+unfolding writeVerdict listVerdict verdict
+write-accepts f ext name xs ys kinds threads n e a h =
+    rw e (verdict-on (listRefusals f xs ys kinds threads) _ a ∙ rw (le-ltb n (length (fileOf f name (commands xs ys kinds) threads)) h))
+
+module _ (t : RoundTrip) where
+  abbrev cs : List Cmd
+  cs = commands (t .xs) (t .ys) (t .kinds)
+
+  abbrev file : List ℕ
+  file = fileOf (t .format) (t .name) cs (t .threads)
+
+  accepts : writeVerdict (extensionOf (t .ext)) (t .name) (t .xs) (t .ys) (t .kinds) (t .threads) (length (t .d)) ≡ Accepted
+  accepts = write-accepts (t .format) (t .ext) (t .name) (t .xs) (t .ys) (t .kinds) (t .threads) (length (t .d)) (t .named) (t .accepted) (t .room .bytes)
+
+  is-written : t .w ≡ Written (length file)
+  unfolding writeAnswer fileTold
+  is-written = t .wrote .told ∙ rw (accepts, t .named)
+
+  buffer : t .d′ ≡ file ++ drop (length file) (t .d)
+  unfolding filled fileTold
+  buffer = t .wrote .stored ∙ rw (accepts, t .named)
+
+  the-file : take (writeLength (t .w)) (t .d′) ≡ file
+  unfolding writeLength
+  the-file = rw (is-written, buffer) (front file (t .d) (length file) refl)
+
+  reading : ReadOf (t .ext) file (t .ps) (t .ps′) (t .rs) (t .rs′) (t .bs) (t .bs′) (t .r)
+  reading = rw the-file at (t .reads)
+
+  read-accepts : readVerdict (extensionOf (t .ext)) file (length (t .ps)) (length (t .rs)) (length (t .bs)) ≡ Accepted
+  read-accepts =
+      let k = kept (t .format) (t .name) (t .xs) (t .ys) (t .kinds) (t .threads) (t .accepted) in
+      rw (t .named) (read-accepted (t .format) file _ _ _ (k .taken-back) (t .room .places) (t .room .runs) (t .room .blocks))
+
+  abbrev P : List ℤ
+  P = placesOf (t .format) file
+
+  abbrev R : List ℕ
+  R = runsOf (t .format) file
+
+  abbrev B : List ℕ
+  B = blocksOf (t .format) file
+
+  is-read : t .r ≡ Read (countsOf P R B)
+  unfolding readAnswer placesTold runsTold blocksTold
+  is-read = reading .told ∙ rw (read-accepts, t .named)
+
+  places-are : t .ps′ ≡ P ++ drop (length P) (t .ps)
+  unfolding filled placesTold
+  places-are = reading .places ∙ rw (read-accepts, t .named)
+
+  runs-are : t .rs′ ≡ R ++ drop (length R) (t .rs)
+  unfolding filled runsTold
+  runs-are = reading .runs ∙ rw (read-accepts, t .named)
+
+  blocks-are : t .bs′ ≡ B ++ drop (length B) (t .bs)
+  unfolding filled blocksTold
+  blocks-are = reading .blocks ∙ rw (read-accepts, t .named)
+
+  told : back t ≡ fileSewing P R B
+  unfolding toldSewing readCounts countsOf
+  told = rw (is-read, places-are, runs-are, blocks-are)
+      (rw (front P (t .ps) _ (points-cells (t .format) file), front R (t .rs) _ refl, front B (t .bs) _ (blocks-cells (t .format) file)))
+
+  pub sewn : Sewn t
+  unfolding writeNumber readNumber
+  sewn = record {
+    written = rw is-written;
+    read = rw is-read;
+    same = told ∙ kept (t .format) (t .name) (t .xs) (t .ys) (t .kinds) (t .threads) (t .accepted) .sews-same;
+  }
+
+-- two lists, in one format or two
+pub same-back : (t u : RoundTrip) → (back t ≡ back u) ↔ (sewing t ≡ sewing u)
+same-back t u =
+    let p = sewn t .same in
+    let q = sewn u .same in
+    (λ e. sym p ∙ e ∙ q, λ e. p ∙ e ∙ sym q)

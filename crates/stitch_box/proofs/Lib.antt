@@ -1,0 +1,2 @@
+-- Lemmas for the calls.
+pub mod Backs

@@ -1,0 +1,7 @@
+-- What the proofs cite; `Sizes` is for other crates too.
+pub mod Floors
+pub mod Joined
+pub mod Sizes
+pub mod Turns
+pub mod Ends
+pub mod Whole

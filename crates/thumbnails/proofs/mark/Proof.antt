@@ -1,0 +1,46 @@
+-- By the operation.
+use Prim.Native.Nat.{ℕ}
+use mathlib.Core.Path.{_≡_, refl}
+use mathlib.Core.List.{List, [], _∷_}
+use types.Run.{OneOf, miss}
+use denote.Enum.Declared.{tagOf}
+use mir.Facts.{toZ-ofZ}
+use lib.IntN.{ℤ}
+use Rattle.rules.proofs.Op.{the-type}
+use Rattle.rules.specs.declared.Op.{Op}
+use Rattle.rules.specs.declared.Op.the-variants.{Stitch, Jump, Trim, ColorChange, End}
+use Rattle.rules.specs.declared.Scale.{Scale}
+use Rattle.rules.specs.Thumbnails.{marked}
+use borrow.Author.Needs.{needs}
+use Rattle.thumbnails.proofs.mark.Statement.{statement}
+use Rattle.thumbnails.proofs.mark.Tie as tie
+
+-- any other than the first marks nothing
+others : (s : Scale) (icon : List ℕ) (x y : ℤ) (o : Op) → OneOf (1 ∷ 2 ∷ 3 ∷ 4 ∷ []) (tagOf the-type o) → icon ≡ marked s icon o x y
+unfolding marked
+others s icon x y Stitch k = absurd (miss (1 ∷ 2 ∷ 3 ∷ 4 ∷ []) 0 tt k)
+others s icon x y Jump k = refl
+others s icon x y Trim k = refl
+others s icon x y ColorChange k = refl
+others s icon x y End k = refl
+
+enum-told : tie.Need-enum-told
+enum-told c = search needs
+
+returns : tie.Need-returns
+returns c = others (c .before .before .args .s) _ (c .before .before .args .x) (c .before .before .args .y) (c .before .before .args .op) (c .match .keys2)
+
+paint-requires : tie.Need-paint-requires
+paint-requires c κs = search needs
+
+same-length : tie.Need-same-length
+same-length c = search needs
+
+returns-2 : tie.Need-returns-2
+unfolding marked
+returns-2 c =
+    let f = c .before .before .before .before .before .before .before .fits in
+    rw (c .before .before .before .before .enum-told .given .1) (rw (toZ-ofZ (f .x), toZ-ofZ (f .y)) at (c .before .before .paint .ensures))
+
+pub mark-spec : {M : Type 1} → statement M
+mark-spec = tie.close (tie.spec enum-told returns paint-requires same-length returns-2)
