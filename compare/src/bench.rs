@@ -1,4 +1,4 @@
-//! The time of the published Rust's read and of the port's, in one run.
+//! The time of the published Rust's read and write and of the port's, in one run.
 
 use crate::formats::read::read_stitch_file;
 use crate::lists::{self, List};
@@ -8,7 +8,7 @@ use crate::random::Random;
 use std::hint::black_box;
 use std::time::{Duration, Instant};
 
-/// A design to be read: the greatest step, the stitches of a run, and how many
+/// A design: the greatest step, the stitches of a run, and how many
 /// stitches there are, 500 of one colour.
 struct Design {
     step: i32,
@@ -33,7 +33,7 @@ const DESIGNS: [Design; 2] = [
 /// No place lies further out on either axis.
 const EDGE: i32 = 16_000;
 
-/// Reads each design in each format so many times; false if an answer differs.
+/// Reads and writes each design in each format so many times; false if an answer differs.
 pub fn run(rounds: usize) -> bool {
     let mut same = true;
     println!("median of {rounds} rounds, microseconds");
@@ -47,8 +47,51 @@ pub fn run(rounds: usize) -> bool {
             let file = oracle::write(format, &list.name, &list.cmds, &list.threads);
             same &= read(format, &file, rounds);
         }
+        println!("format    bytes  commands               Rust      port  Rust/port");
+        for format in Format::ALL {
+            same &= write(format, &list, rounds);
+        }
     }
     same
+}
+
+/// One list written. What EXP's and JEF's writers of the Rust take to copy their
+/// list first is measured too and taken off.
+fn write(format: Format, list: &List, rounds: usize) -> bool {
+    let ext = format.ext();
+    let ready = oracle::Ready::new(&list.name, &list.cmds, &list.threads);
+    let lists = port::Lists::of(list);
+    let file = ready.write(format);
+    let mut out = vec![0xA5; file.len()];
+    if port::write(ext.as_bytes(), &lists, &mut out) != (0, file.len() as u64) || out != file {
+        println!("{ext}: the files differ");
+        return false;
+    }
+    let (mut rust, mut copy, mut port) = (Vec::new(), Vec::new(), Vec::new());
+    for _ in 0..rounds {
+        let start = Instant::now();
+        let written = black_box(black_box(&ready).write(format));
+        rust.push(start.elapsed());
+        drop(written);
+        let start = Instant::now();
+        black_box(ready.copied());
+        copy.push(start.elapsed());
+        let start = Instant::now();
+        black_box(port::write(ext.as_bytes(), black_box(&lists), &mut out));
+        port.push(start.elapsed());
+    }
+    let copies = matches!(format, Format::Exp | Format::Jef);
+    let off = if copies { median(copy) } else { Duration::ZERO };
+    let (rust, port) = (median(rust).saturating_sub(off), median(port));
+    let ratio = rust.as_secs_f64() / port.as_secs_f64();
+    println!(
+        "{ext:6} {:8} {:8}           {:9.1} {:9.1} {ratio:10.2}",
+        file.len(),
+        list.cmds.len(),
+        micros(rust),
+        micros(port)
+    );
+    true
 }
 
 impl Design {

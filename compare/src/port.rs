@@ -1,5 +1,5 @@
-//! The port's read, by the archive for C that `build.rs` links if it is there,
-//! and the published Rust's answers as that read lays them into its buffers.
+//! The port's calls, by the archive for C that `build.rs` links if it is there,
+//! and the published Rust's answers as the read lays them into its buffers.
 
 use crate::oracle::Reading;
 use std::io;
@@ -22,7 +22,78 @@ mod archive {
             counts: *mut u32,
             counts_length: usize,
         ) -> u32;
+
+        pub fn stitch_box_write(
+            ext: *const u8,
+            ext_length: usize,
+            name: *const u8,
+            name_length: usize,
+            xs: *const i32,
+            xs_length: usize,
+            ys: *const i32,
+            ys_length: usize,
+            kinds: *const u8,
+            kinds_length: usize,
+            threads: *const u8,
+            threads_length: usize,
+            out: *mut u8,
+            out_length: usize,
+            length: *mut u64,
+        ) -> u32;
     }
+}
+
+/// A list as the port takes it.
+pub struct Lists {
+    pub name: Vec<u8>,
+    pub xs: Vec<i32>,
+    pub ys: Vec<i32>,
+    pub kinds: Vec<u8>,
+    pub threads: Vec<u8>,
+}
+
+impl Lists {
+    pub fn of(list: &crate::lists::List) -> Lists {
+        Lists {
+            name: list.name.clone(),
+            xs: list.cmds.iter().map(|&(x, _, _)| x).collect(),
+            ys: list.cmds.iter().map(|&(_, y, _)| y).collect(),
+            kinds: list.cmds.iter().map(|&(_, _, kind)| kind).collect(),
+            threads: list.threads.concat(),
+        }
+    }
+}
+
+/// Writes a list: 0 or the number of the refusal, and the length.
+#[cfg(stitch_box)]
+pub fn write(ext: &[u8], list: &Lists, out: &mut [u8]) -> (u32, u64) {
+    let mut length = u64::MAX;
+    // SAFETY: each pointer comes with the length of its slice.
+    let number = unsafe {
+        archive::stitch_box_write(
+            ext.as_ptr(),
+            ext.len(),
+            list.name.as_ptr(),
+            list.name.len(),
+            list.xs.as_ptr(),
+            list.xs.len(),
+            list.ys.as_ptr(),
+            list.ys.len(),
+            list.kinds.as_ptr(),
+            list.kinds.len(),
+            list.threads.as_ptr(),
+            list.threads.len(),
+            out.as_mut_ptr(),
+            out.len(),
+            &mut length,
+        )
+    };
+    (number, length)
+}
+
+#[cfg(not(stitch_box))]
+pub fn write(_: &[u8], _: &Lists, _: &mut [u8]) -> (u32, u64) {
+    panic!("{MISSING}")
 }
 
 /// Reads a file: 0 or the number of the refusal. The counts are points, runs,

@@ -1,7 +1,7 @@
 -- The text of the header in the parts that the code puts, how long they are, and the last place. Assumes nothing.
-use Prim.Native.Nat.{ℕ, suc, _+_, _-_, _*_, _≤_}
+use Prim.Native.Nat.{ℕ, suc, _+_, _-_, _*_}
 use mathlib.Core.Path.{_≡_, refl, sym, ap, _∙_}
-use mathlib.Core.Bool.{Bool, false}
+use mathlib.Core.Bool.{false}
 use mathlib.Core.List.{List, [], _∷_, _++_, append-assoc, append-nil}
 use native.Mathlib.Omega.{arith}
 use borrow.Author.Tests.{ne-eqb}
@@ -16,7 +16,6 @@ use Rattle.rules.specs.declared.Cmd.{Cmd}
 use Rattle.geom.specs.Frames.{boundsOf}
 use Rattle.geom.specs.declared.Bounds.{Bounds}
 use Rattle.laws.specs.Listing.{noCmd, commands-at}
-use Rattle.laws.specs.Tests.{pick-both}
 use Rattle.dst.specs.Lines.{trimming, countsText, boundsText, lastText, endText}
 use Rattle.dst.proofs.Lines.{length-line, number-line, signed-line}
 use Rattle.dst.proofs.Names.{length-name}

@@ -1,17 +1,21 @@
 // What a file's first bytes tell: whether the file is refused, where its own part begins, and its label.
 use formats::extension_of;
+use header::Span;
 use header::Word;
-use header::dst_label;
+use header::dst_label_at;
 use header::i32le;
-use header::pec_label;
+use header::part;
+use header::pec_label_at;
 use rules::Extension;
 use rules::Format;
 use rules::Refusal;
 ghost use mathlib.Core.Path.{_≡_};
 ghost use mathlib.Core.List.{[], _∷_};
-ghost use Rattle.rules.specs.Files.{partStart, begins, labelOf, labelTold};
+ghost use Rattle.header.specs.Spans.{Holds};
+ghost use Rattle.rules.specs.Files.{partStart, begins, fileVerdict, labelOf, labelTold};
 ghost use Rattle.rules.specs.Refusals.{extensionOf};
 ghost use Rattle.rules.specs.declared.Extension.the-variants.{Of};
+ghost use Rattle.front.specs.Labels.{labelAnswered};
 ghost use Rattle.front.specs.Openings.{byteOf, pecFront, pesFront, dstFront, jefFront, frontOf};
 
 // A byte, or a file that ends before it.
@@ -23,6 +27,12 @@ pub enum Byte {
 // Where the file's own part begins, or why the file is refused.
 pub enum Opening {
     At(usize),
+    Not(Refusal),
+}
+
+// Where the label stands, or why the file is refused.
+pub enum LabelAnswer {
+    Found(Span),
     Not(Refusal),
 }
 
@@ -121,36 +131,55 @@ pub fn front(f: Format, file: &[u8]) -> Opening
     }
 }
 
-// The label of a file whose part begins at start.
-fn label_of(f: Format, file: &[u8], start: usize) -> &[u8]
+// Where the label of a file stands whose part begins at start.
+fn label_of_at(f: Format, file: &[u8], start: usize) -> Span
     requires { ⌜ start ≡ partStart f (now file) ⌝ }
-    ensures { λ r. ⌜ now r ≡ labelOf f (now (file .entry)) ⌝ }
+    ensures { λ r. ⌜ Holds r (now (file .entry)) (labelOf f (now (file .entry))) ⌝ }
 {
     match f {
-        Format::Pes | Format::Pec => pec_label(file, start),
-        Format::Dst => dst_label(file),
-        Format::Exp | Format::Jef => &file[..0],
+        Format::Pes | Format::Pec => pec_label_at(file, start),
+        Format::Dst => dst_label_at(file),
+        Format::Exp | Format::Jef => Span { start: 0, len: 0 },
     }
 }
 
-// The label of a file of format f, empty if the file is refused.
-fn label_in(f: Format, file: &[u8]) -> &[u8]
-    ensures { λ r. ⌜ now r ≡ labelTold (Of f) (now (file .entry)) ⌝ }
+// Where the label of a file of format f stands, or why the file is refused.
+fn label_answer_in(f: Format, file: &[u8]) -> LabelAnswer
+    ensures { λ r. ⌜ labelAnswered (fileVerdict (Of f) (now (file .entry))) (now (file .entry)) (labelTold (Of f) (now (file .entry))) r ⌝ }
 {
     let found = front(f, file);
-    let Opening::At(start) = found else {
-        return &file[..0];
+    match found {
+        Opening::At(start) => LabelAnswer::Found(label_of_at(f, file, start)),
+        Opening::Not(why) => LabelAnswer::Not(why),
+    }
+}
+
+// Where the label of a file stands, or why the file is refused: every refusal of reading but 11.
+pub fn label_answer(ext: &[u8], file: &[u8]) -> LabelAnswer
+    ensures { λ r. ⌜ labelAnswered (fileVerdict (extensionOf (now (ext .entry))) (now (file .entry))) (now (file .entry)) (labelTold (extensionOf (now (ext .entry))) (now (file .entry))) r ⌝ }
+{
+    let named = extension_of(ext);
+    let Extension::Of(f) = named else {
+        return LabelAnswer::Not(Refusal::UnknownExtension);
     };
-    label_of(f, file, start)
+    label_answer_in(f, file)
+}
+
+// Where the label of a file stands: nothing, at its start, under a refusal.
+pub fn label_at(ext: &[u8], file: &[u8]) -> Span
+    ensures { λ r. ⌜ Holds r (now (file .entry)) (labelTold (extensionOf (now (ext .entry))) (now (file .entry))) ⌝ }
+{
+    let answer = label_answer(ext, file);
+    let LabelAnswer::Found(p) = answer else {
+        return Span { start: 0, len: 0 };
+    };
+    p
 }
 
 // The label of a file, as a part of it: empty for EXP and JEF, and under every refusal of reading but 11.
 pub fn label<'a>(ext: &[u8], file: &'a [u8]) -> &'a [u8]
     ensures { λ r. ⌜ now r ≡ labelTold (extensionOf (now (ext .entry))) (now (file .entry)) ⌝ }
 {
-    let named = extension_of(ext);
-    let Extension::Of(f) = named else {
-        return &file[..0];
-    };
-    label_in(f, file)
+    let p = label_at(ext, file);
+    part(file, p.start, p.len)
 }

@@ -3,3 +3,4 @@ pub mod Lines
 pub mod Words
 pub mod Marks
 pub mod Colors
+pub mod Spans

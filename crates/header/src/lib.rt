@@ -4,7 +4,7 @@ use rules::Slot;
 ghost use mathlib.Core.Path.{_≡_};
 ghost use mathlib.Core.Bool.{_&&_};
 ghost use mathlib.Core.List.{[], _∷_, map};
-ghost use Prim.Native.Nat.{_+_, _*_, _-_, _%_, _≤_, _<_};
+ghost use Prim.Native.Nat.{_+_, _*_, _-_, _%_, _≤_, _<_, min};
 ghost use lib.Dec.{leb};
 ghost use lib.IntN.{natAbs};
 ghost use lib.ListN.{length, take, drop, getD};
@@ -13,12 +13,19 @@ ghost use Rattle.rules.specs.Files.{blank, trimStart, trimEnd, trimmed, linesOf
 ghost use Rattle.rules.specs.Charts.{color, pecChart, jefChart};
 ghost use Rattle.header.specs.Words.{wordOf};
 ghost use Rattle.header.specs.Lines.{Line};
+ghost use Rattle.header.specs.Spans.{Holds};
 ghost use Rattle.header.specs.Colors.{Stored, nextCell, cellsAfter};
 
 // A number, or a file that ends before it.
 pub enum Word {
     Number(i32),
     Missing,
+}
+
+// A part of a slice, by its place.
+pub struct Span {
+    pub start: usize,
+    pub len: usize,
 }
 
 // A number of 32 bits in two's complement.
@@ -91,36 +98,66 @@ fn end_of(s: &[u8]) -> usize
     e
 }
 
-// A text without the blanks at both ends.
-pub fn trimmed(s: &[u8]) -> &[u8]
-    ensures { λ r. ⌜ now r ≡ trimmed (now (s .entry)) ⌝ }
+// The place k bytes after another, or the slice's end.
+fn ahead(s: &[u8], from: usize, k: usize) -> usize
+    ensures { λ r. ⌜ r ≡ min (from + k) (length (now (s .entry))) ⌝ }
 {
-    let a = start_of(s);
-    let t = &s[a..];
-    let e = end_of(t);
-    &t[..e]
+    let n = s.len();
+    if n <= from {
+        return n;
+    }
+    if n - from <= k {
+        return n;
+    }
+    from + k
 }
 
 // At most len bytes from a place on, cut where the slice ends.
 pub fn part(s: &[u8], from: usize, len: usize) -> &[u8]
     ensures { λ r. ⌜ now r ≡ take len (drop from (now (s .entry))) ⌝ }
 {
-    let n = s.len();
-    if n <= from {
-        return &s[n..];
+    let a = ahead(s, from, 0);
+    let e = ahead(s, from, len);
+    &s[a..e]
+}
+
+// Where a part of a slice stands without the blanks at both ends.
+pub fn trimmed_at(s: &[u8], start: usize, len: usize) -> Span
+    requires { ⌜ start + len ≤ length (now s) ⌝ }
+    ensures { λ r. ⌜ Holds r (now (s .entry)) (trimmed (take len (drop start (now (s .entry))))) ⌝ }
+{
+    let t = part(s, start, len);
+    let a = start_of(t);
+    let e = end_of(&t[a..]);
+    Span {
+        start: start + a,
+        len: e,
     }
-    if n - from <= len {
-        return &s[from..];
-    }
-    let e = from + len;
-    &s[from..e]
+}
+
+// A text without the blanks at both ends.
+pub fn trimmed(s: &[u8]) -> &[u8]
+    ensures { λ r. ⌜ now r ≡ trimmed (now (s .entry)) ⌝ }
+{
+    let p = trimmed_at(s, 0, s.len());
+    part(s, p.start, p.len)
+}
+
+// Where the label of a PEC part stands that begins at start.
+pub fn pec_label_at(file: &[u8], start: usize) -> Span
+    ensures { λ r. ⌜ Holds r (now (file .entry)) (trimmed (take 16 (drop (start + 3) (now (file .entry))))) ⌝ }
+{
+    let a = ahead(file, start, 3);
+    let e = ahead(file, start, 19);
+    trimmed_at(file, a, e - a)
 }
 
 // The label of a PEC part that begins at start.
 pub fn pec_label(file: &[u8], start: usize) -> &[u8]
     ensures { λ r. ⌜ now r ≡ trimmed (take 16 (drop (start + 3) (now (file .entry)))) ⌝ }
 {
-    trimmed(part(part(file, start, 19), 3, 16))
+    let p = pec_label_at(file, start);
+    part(file, p.start, p.len)
 }
 
 // Whether a text begins with three given bytes.
@@ -157,10 +194,10 @@ fn line_end(s: &[u8], at: usize) -> usize
     e
 }
 
-// The rest of the last line that begins `LA:`.
-fn last_label(s: &[u8]) -> &[u8]
+// Where the rest of the last line that begins `LA:` stands.
+fn last_label_at(s: &[u8]) -> Span
     requires { ⌜ length (now s) ≤ 512 ⌝ }
-    ensures { λ r. ⌜ now r ≡ lastLabel [] (linesOf (now (s .entry))) ⌝ }
+    ensures { λ r. ⌜ Holds r (now (s .entry)) (lastLabel [] (linesOf (now (s .entry)))) ⌝ }
 {
     let mut from = 0;
     let mut to = 0;
@@ -173,14 +210,26 @@ fn last_label(s: &[u8]) -> &[u8]
         }
         at = e + 1;
     }
-    &s[from..to]
+    Span {
+        start: from,
+        len: to - from,
+    }
+}
+
+// Where the label of a DST file stands.
+pub fn dst_label_at(file: &[u8]) -> Span
+    ensures { λ r. ⌜ Holds r (now (file .entry)) (trimmed (lastLabel [] (linesOf (take 512 (now (file .entry)))))) ⌝ }
+{
+    let p = last_label_at(part(file, 0, 512));
+    trimmed_at(file, p.start, p.len)
 }
 
 // The label of a DST file.
 pub fn dst_label(file: &[u8]) -> &[u8]
     ensures { λ r. ⌜ now r ≡ trimmed (lastLabel [] (linesOf (take 512 (now (file .entry))))) ⌝ }
 {
-    trimmed(last_label(part(file, 0, 512)))
+    let p = dst_label_at(file);
+    part(file, p.start, p.len)
 }
 
 fn is_from_to(b: u8, lo: u8, hi: u8) -> bool

@@ -5,3 +5,6 @@ pub mod Places
 pub mod Turns
 pub mod Loops
 pub mod Bounds
+pub mod Lent
+pub mod Methods
+pub mod Lenders

@@ -1,4 +1,4 @@
-// The builder, by value, and what each record makes of it.
+// The builder, one small record that is lent by mutable reference, and what each record of a file makes of it.
 use rules::Counts;
 use rules::Record;
 ghost use mathlib.Core.Path.{_≡_};
@@ -8,16 +8,17 @@ ghost use Rattle.records.specs.Fields.{lenOf, dxOf, dyOf};
 ghost use Rattle.passes.specs.Builders.{Small, Counted, origin, stitched, jumped, changed, followed, finished, some, placeAfter};
 
 // The place; the points of the open run, 0 where none is open; the number of the block and the runs begun in it; and all points,
-// ended runs and listed blocks so far.
+// ended runs and listed blocks so far. No two neighbours are both left alone by a stitch, or by a jump: the compiler would keep
+// them as one number, and the loops would be slower.
 pub struct Builder {
     pub x: i32,
-    pub y: i32,
-    pub run: u32,
     pub block: u32,
-    pub begun: u32,
-    pub points: u32,
-    pub runs: u32,
+    pub y: i32,
     pub blocks: u32,
+    pub run: u32,
+    pub begun: u32,
+    pub runs: u32,
+    pub points: u32,
 }
 
 pub fn new() -> Builder
@@ -43,8 +44,8 @@ pub fn sum(a: i32, b: i32) -> i32
     a + b
 }
 
-// A stitch to (x, y); with no run open it opens one, of two points.
-pub fn stitch(b: Builder, x: i32, y: i32) -> Builder
+// The builder after a stitch to (x, y); with no run open the stitch opens one, of two points.
+pub fn after_stitch(b: Builder, x: i32, y: i32) -> Builder
     requires { ⌜ Small b ⌝ }
     ensures { λ r. ⌜ r ≡ stitched b x y ⌝ }
 {
@@ -82,8 +83,8 @@ fn one_if(n: u32) -> u32
     1
 }
 
-// A jump to (x, y) ends the run.
-pub fn jump(b: Builder, x: i32, y: i32) -> Builder
+// The builder after a jump to (x, y), which ends the run.
+pub fn after_jump(b: Builder, x: i32, y: i32) -> Builder
     requires { ⌜ Small b ⌝ }
     ensures { λ r. ⌜ r ≡ jumped b x y ⌝ }
 {
@@ -99,8 +100,8 @@ pub fn jump(b: Builder, x: i32, y: i32) -> Builder
     }
 }
 
-// A colour change ends run and block; then it moves to (x, y).
-pub fn color_change(b: Builder, x: i32, y: i32) -> Builder
+// The builder after a colour change, which ends run and block and then moves to (x, y).
+pub fn after_change(b: Builder, x: i32, y: i32) -> Builder
     requires { ⌜ Small b ⌝ }
     ensures { λ r. ⌜ r ≡ changed b x y ⌝ }
 {
@@ -114,6 +115,58 @@ pub fn color_change(b: Builder, x: i32, y: i32) -> Builder
         runs: b.runs + one_if(b.run),
         blocks: b.blocks + one_if(b.begun),
     }
+}
+
+// The same three on a builder that is lent.
+impl Builder {
+    pub fn stitch(&mut self, x: i32, y: i32)
+        requires { ⌜ Small (now self) ⌝ }
+        ensures { λ _. ⌜ now (self .exit) ≡ stitched (now (self .entry)) x y ⌝ }
+    {
+        *self = after_stitch(*self, x, y);
+    }
+
+    pub fn jump(&mut self, x: i32, y: i32)
+        requires { ⌜ Small (now self) ⌝ }
+        ensures { λ _. ⌜ now (self .exit) ≡ jumped (now (self .entry)) x y ⌝ }
+    {
+        *self = after_jump(*self, x, y);
+    }
+
+    pub fn color_change(&mut self, x: i32, y: i32)
+        requires { ⌜ Small (now self) ⌝ }
+        ensures { λ _. ⌜ now (self .exit) ≡ changed (now (self .entry)) x y ⌝ }
+    {
+        *self = after_change(*self, x, y);
+    }
+}
+
+// The same three for the passes, which keep the builder by value: each lends it to the method and gives it back.
+pub fn stitch(b: Builder, x: i32, y: i32) -> Builder
+    requires { ⌜ Small b ⌝ }
+    ensures { λ r. ⌜ r ≡ stitched b x y ⌝ }
+{
+    let mut c = b;
+    c.stitch(x, y);
+    c
+}
+
+pub fn jump(b: Builder, x: i32, y: i32) -> Builder
+    requires { ⌜ Small b ⌝ }
+    ensures { λ r. ⌜ r ≡ jumped b x y ⌝ }
+{
+    let mut c = b;
+    c.jump(x, y);
+    c
+}
+
+pub fn color_change(b: Builder, x: i32, y: i32) -> Builder
+    requires { ⌜ Small b ⌝ }
+    ensures { λ r. ⌜ r ≡ changed b x y ⌝ }
+{
+    let mut c = b;
+    c.color_change(x, y);
+    c
 }
 
 // What a record makes of the builder, where it reaches (x, y). The end leaves it as it is.

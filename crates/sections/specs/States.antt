@@ -4,10 +4,9 @@ use mathlib.Core.Path.{_≡_}
 use mathlib.Core.Bool.{Bool, not, _&&_}
 use mathlib.Core.List.{List}
 use lib.Dec.{eqb}
-use lib.IntN.{ℤ, pos, natAbs, _-ℤ_}
+use lib.IntN.{ℤ, natAbs, _-ℤ_}
 use lib.ListN.{length, getD}
 use Rattle.rules.specs.Vocabulary.{pick}
-use Rattle.rules.specs.Lists.{minX, maxY}
 use Rattle.rules.specs.Pes.{PesState, pesStart, pesSections, sectionCount, opensSection, colorLog}
 use Rattle.rules.specs.declared.Cmd.{Cmd}
 use Rattle.rules.specs.declared.Color.{Color}

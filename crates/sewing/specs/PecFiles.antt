@@ -1,6 +1,6 @@
 -- PEC and PES files: where the stitches stand, how long the parts are, and that they sew what the list sews and are not refused. Assumes nothing.
 use mathlib.Core.Path.{_≡_, refl, sym, _∙_, ap}
-use mathlib.Core.Bool.{true, not, _&&_}
+use mathlib.Core.Bool.{true, _&&_}
 use mathlib.Core.List.{List, [], _∷_, _++_, append-assoc, append-nil}
 use Prim.Native.Nat.{ℕ, zero, suc, _+_, _*_, _/_, _^_, _≤_, _<_}
 use native.Mathlib.Omega.{arith}
@@ -14,7 +14,7 @@ use Rattle.rules.specs.Lists.{opOf, leastStep, greatestStep, stepIn, threadsOf}
 use Rattle.rules.specs.Refusals.{changes, verdict}
 use Rattle.rules.specs.Charts.{blankIcon}
 use Rattle.rules.specs.Thumbnails.{pixel, painted, marked, drawn, icons}
-use Rattle.rules.specs.Pec.{pecFirst, pecStart, pecNext, pecCmd, pecStitches, pecHeader, pecPart, pecFile}
+use Rattle.rules.specs.Pec.{pecFirst, pecStart, pecNext, pecCmd, pecStitches, pecPart, pecFile}
 use Rattle.rules.specs.Pes.{pesMiddle, pesFile}
 use Rattle.rules.specs.Files.{fileOf, wordAt, partStart, stitchBytes, firstOf, eventsOf, begins, notPes, tooShort, startBelowZero, noCount, fileRefusals, fileVerdict}
 use Rattle.rules.specs.Sewing.{listSewing}
@@ -31,7 +31,7 @@ use Rattle.laws.specs.Tests.{by-test, and-left, and-right}
 use Rattle.laws.specs.Ints.{InBits, ints, between-true}
 use Rattle.laws.specs.Twos.{signed-low}
 use Rattle.laws.specs.Little.{length-little, little-at}
-use Rattle.laws.specs.Lengths.{whole, part, parts, length-icons, length-header, blockFront, partFront, length-partFront, stitchesOf, part-is, length-stitches, length-middle, part-length, pec-length, pes-length}
+use Rattle.laws.specs.Lengths.{whole, parts, length-header, partFront, length-partFront, stitchesOf, part-is, length-stitches, length-middle, part-length, pec-length, pes-length}
 use Rattle.sewing.specs.EventSewing.{eventSewing}
 use Rattle.sewing.specs.Accepting.{Good}
 use Rattle.sewing.specs.Round.{sewn, round}

@@ -1,8 +1,8 @@
 -- Demand 3 over the definitions: for every list accepted for a format, with any name and threads, the file that is written is not refused, and what is
 -- read of it sews what the list sews. Two lists, in one format or two, read back as equal sewings exactly when they sew the same. Assumes nothing.
-use mathlib.Core.Path.{_≡_, refl, sym, _∙_}
+use mathlib.Core.Path.{_≡_, sym, _∙_}
 use mathlib.Core.Logic.{_↔_}
-use mathlib.Core.List.{List, [], _∷_}
+use mathlib.Core.List.{List}
 use Prim.Native.Nat.{ℕ, _/_, _≤_}
 use native.Mathlib.Omega.{arith}
 use borrow.Author.Tests.{ltb-false, le-ltb}
@@ -10,7 +10,7 @@ use lib.IntN.{ℤ, pos}
 use lib.Dec.{ltb}
 use lib.ListN.{length}
 use Rattle.rules.specs.Vocabulary.{count}
-use Rattle.rules.specs.Lists.{commands, stepIn, threadsOf}
+use Rattle.rules.specs.Lists.{commands, stepIn}
 use Rattle.rules.specs.Refusals.{changes, tooMany, verdict, listVerdict}
 use Rattle.rules.specs.Files.{fileOf, eventsOf, colourOf, placesOf, runsOf, blocksOf, fileRefusals, noRoom, fileVerdict, readVerdict}
 use Rattle.rules.specs.Sewing.{Entry, listSewing, fileSewing}

@@ -9,7 +9,6 @@ use Rattle.rules.specs.Files.{readVerdict, placesTold, runsTold, blocksTold, co
 use Rattle.rules.specs.Lists.{commands}
 use Rattle.rules.specs.Refusals.{extensionOf}
 use Rattle.rules.specs.declared.ReadAnswer.{ReadAnswer}
-use Rattle.rules.specs.declared.ReadAnswer.the-variants.{Unread}
 use Rattle.rules.specs.declared.Refusal.{Refusal}
 use Rattle.rules.specs.declared.Verdict.{Verdict}
 use Rattle.rules.specs.declared.Verdict.the-variants.{Accepted, Refused}

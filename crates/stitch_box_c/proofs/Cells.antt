@@ -1,4 +1,4 @@
--- Four stores into four cells. Assumes nothing.
+-- Stores into all cells of a slice. Assumes nothing.
 use Prim.Native.Nat.{ℕ}
 use mathlib.Core.Path.{_≡_, refl}
 use mathlib.Core.List.{List, [], _∷_}
@@ -12,3 +12,9 @@ four-set (p ∷ q ∷ []) h = absurd (omega arith)
 four-set (p ∷ q ∷ r ∷ []) h = absurd (omega arith)
 four-set (p ∷ q ∷ r ∷ t ∷ []) h = refl
 four-set (p ∷ q ∷ r ∷ t ∷ u ∷ s) h = absurd (omega arith)
+
+pub two-set : (s : List ℕ) → length s ≡ 2 → {a b : ℕ} → set (set s 0 a) 1 b ≡ a ∷ b ∷ []
+two-set [] h = absurd (omega arith)
+two-set (p ∷ []) h = absurd (omega arith)
+two-set (p ∷ q ∷ []) h = refl
+two-set (p ∷ q ∷ r ∷ s) h = absurd (omega arith)

@@ -1,2 +1,3 @@
 -- Lemmas of the proofs.
 pub mod Cells
+pub mod Placing

@@ -1,31 +1,22 @@
--- The run and the block that end are counted.
-use native.Mathlib.Omega.{arith}
-use mir.Facts.{toZ-ofZ}
-use Rattle.passes.proofs.Parts.{sizes}
-use borrow.Author.Needs.{needs}
+-- The method `color_change`, lent a builder.
+use mathlib.Core.Path.{refl}
+use contract.Running.{givenOf, tables, tablesOf}
+use denote.Triple.Spec.{tripleOf}
+use denote.Triple.Table.{entered, cited}
+use Rattle.passes.specs.Builders.{changed}
+use Rattle.passes.proofs.Lent.{ByRef}
+use Rattle.passes.proofs.Lenders.{lender-meets}
+use Rattle.passes.proofs.builder.Builder.color_change.Met.{met}
+use Rattle.passes.proofs.builder.Builder.color_change.Symbol as called
+use Rattle.passes.proofs.builder.color_change as said
+use Rattle.passes.proofs.builder.color_change.Code as code
+use Rattle.passes.proofs.builder.color_change.Key.{name}
 use Rattle.passes.proofs.builder.color_change.Statement.{statement}
-use Rattle.passes.proofs.builder.color_change.Tie as tie
-
-add-t4 : tie.Need-add-t4
-add-t4 c = search needs
-
-one-if-requires : tie.Need-one-if-requires
-one-if-requires c κs = search needs
-
-add-t6 : tie.Need-add-t6
-add-t6 c = omega (arith, c .before .one-if .ensures, sizes (c .before .before .before .args .b .run) 0)
-
-one-if-requires-2 : tie.Need-one-if-requires-2
-one-if-requires-2 c κs = search needs
-
-add-t8 : tie.Need-add-t8
-add-t8 c = omega (arith, c .before .one-if2 .ensures, sizes (c .before .before .before .before .before .args .b .begun) 0)
-
-returns : tie.Need-returns
-returns c =
-    let s = c .before .before .before .before .before in
-    simp (toZ-ofZ (s .fits .x), toZ-ofZ (s .fits .y), c .before .before .before .one-if .ensures, c .before .one-if2 .ensures)
 
 pub color-change-spec : {M : Type 1} → statement M
-color-change-spec =
-    tie.close (tie.spec add-t4 one-if-requires add-t6 one-if-requires-2 add-t8 returns)
+unfolding code.routine tablesOf
+color-change-spec 𝓤 H 𝓜 𝓖 𝓡 =
+    let 𝓣 = tables 𝓤 H 𝓜 𝓡 code.env in
+    entered 𝓤 H (tripleOf 𝓤 H (𝓖 .A) said.signature (said.spec 𝓤 H (𝓖 .A) (𝓜 .mem) (𝓡 .run))) (𝓣 .C) (𝓣 .Λ) name code.function (code.unfolded 𝓤 H 𝓜 𝓡)
+    (lender-meets changed called.name 𝓤 H (𝓖 .A) (givenOf 𝓤 H 𝓜 𝓖) (said.clauses 𝓤 H (𝓖 .A) (𝓜 .mem) (𝓡 .run)) refl (tablesOf 𝓤 H 𝓜 𝓣)
+    (cited 𝓤 H (ByRef changed 𝓤 H (𝓖 .A)) 𝓜 𝓡 code.env called.name called.routine code.calls-passes·builder·Builder·color-change (met 𝓤 H 𝓜 𝓖 𝓡)))

@@ -1,19 +1,22 @@
--- The run that ends is counted.
-use native.Mathlib.Omega.{arith}
-use mir.Facts.{toZ-ofZ}
-use Rattle.passes.proofs.Parts.{sizes}
-use borrow.Author.Needs.{needs}
+-- The method `jump`, lent a builder.
+use mathlib.Core.Path.{refl}
+use contract.Running.{givenOf, tables, tablesOf}
+use denote.Triple.Spec.{tripleOf}
+use denote.Triple.Table.{entered, cited}
+use Rattle.passes.specs.Builders.{jumped}
+use Rattle.passes.proofs.Lent.{ByRef}
+use Rattle.passes.proofs.Lenders.{lender-meets}
+use Rattle.passes.proofs.builder.Builder.jump.Met.{met}
+use Rattle.passes.proofs.builder.Builder.jump.Symbol as called
+use Rattle.passes.proofs.builder.jump as said
+use Rattle.passes.proofs.builder.jump.Code as code
+use Rattle.passes.proofs.builder.jump.Key.{name}
 use Rattle.passes.proofs.builder.jump.Statement.{statement}
-use Rattle.passes.proofs.builder.jump.Tie as tie
-
-one-if-requires : tie.Need-one-if-requires
-one-if-requires c κs = search needs
-
-add-t5 : tie.Need-add-t5
-add-t5 c = omega (arith, c .before .one-if .ensures, sizes (c .before .before .args .b .run) 0)
-
-returns : tie.Need-returns
-returns c = let s = c .before .before in simp (toZ-ofZ (s .fits .x), toZ-ofZ (s .fits .y), c .before .one-if .ensures)
 
 pub jump-spec : {M : Type 1} → statement M
-jump-spec = tie.close (tie.spec one-if-requires add-t5 returns)
+unfolding code.routine tablesOf
+jump-spec 𝓤 H 𝓜 𝓖 𝓡 =
+    let 𝓣 = tables 𝓤 H 𝓜 𝓡 code.env in
+    entered 𝓤 H (tripleOf 𝓤 H (𝓖 .A) said.signature (said.spec 𝓤 H (𝓖 .A) (𝓜 .mem) (𝓡 .run))) (𝓣 .C) (𝓣 .Λ) name code.function (code.unfolded 𝓤 H 𝓜 𝓡)
+    (lender-meets jumped called.name 𝓤 H (𝓖 .A) (givenOf 𝓤 H 𝓜 𝓖) (said.clauses 𝓤 H (𝓖 .A) (𝓜 .mem) (𝓡 .run)) refl (tablesOf 𝓤 H 𝓜 𝓣)
+    (cited 𝓤 H (ByRef jumped 𝓤 H (𝓖 .A)) 𝓜 𝓡 code.env called.name called.routine code.calls-passes·builder·Builder·jump (met 𝓤 H 𝓜 𝓖 𝓡)))

@@ -1,35 +1,22 @@
--- A stitch that opens a run, and one that goes on.
-use mir.Facts.{toZ-ofZ}
-use native.Mathlib.Numerals.{add-one}
-use Rattle.rules.specs.Answers.{pointsAfter, begunAfter}
-use Rattle.passes.proofs.Parts.{in-run}
-use borrow.Author.Needs.{needs}
+-- The method `stitch`, lent a builder.
+use mathlib.Core.Path.{refl}
+use contract.Running.{givenOf, tables, tablesOf}
+use denote.Triple.Spec.{tripleOf}
+use denote.Triple.Table.{entered, cited}
+use Rattle.passes.specs.Builders.{stitched}
+use Rattle.passes.proofs.Lent.{ByRef}
+use Rattle.passes.proofs.Lenders.{lender-meets}
+use Rattle.passes.proofs.builder.Builder.stitch.Met.{met}
+use Rattle.passes.proofs.builder.Builder.stitch.Symbol as called
+use Rattle.passes.proofs.builder.stitch as said
+use Rattle.passes.proofs.builder.stitch.Code as code
+use Rattle.passes.proofs.builder.stitch.Key.{name}
 use Rattle.passes.proofs.builder.stitch.Statement.{statement}
-use Rattle.passes.proofs.builder.stitch.Tie as tie
-
-add-t5 : tie.Need-add-t5
-add-t5 c = search needs
-
-add-t6 : tie.Need-add-t6
-add-t6 c = search needs
-
-returns : tie.Need-returns
-unfolding pointsAfter begunAfter
-returns c =
-    let s = c .before .before .before .before in
-    simp (toZ-ofZ (s .fits .x), toZ-ofZ (s .fits .y), c .before .before .if1 .taken, add-one)
-
-add-t7 : tie.Need-add-t7
-add-t7 c = search needs
-
-add-t8 : tie.Need-add-t8
-add-t8 c = search needs
-
-returns-2 : tie.Need-returns-2
-returns-2 c =
-    let s = c .before .before .before .before in
-    let o = in-run (s .args .b .run) (c .before .before .if1 .left) in
-    simp (toZ-ofZ (s .fits .x), toZ-ofZ (s .fits .y), o .after, o .begun (s .args .b .begun), o .adds)
 
 pub stitch-spec : {M : Type 1} → statement M
-stitch-spec = tie.close (tie.spec add-t5 add-t6 returns add-t7 add-t8 returns-2)
+unfolding code.routine tablesOf
+stitch-spec 𝓤 H 𝓜 𝓖 𝓡 =
+    let 𝓣 = tables 𝓤 H 𝓜 𝓡 code.env in
+    entered 𝓤 H (tripleOf 𝓤 H (𝓖 .A) said.signature (said.spec 𝓤 H (𝓖 .A) (𝓜 .mem) (𝓡 .run))) (𝓣 .C) (𝓣 .Λ) name code.function (code.unfolded 𝓤 H 𝓜 𝓡)
+    (lender-meets stitched called.name 𝓤 H (𝓖 .A) (givenOf 𝓤 H 𝓜 𝓖) (said.clauses 𝓤 H (𝓖 .A) (𝓜 .mem) (𝓡 .run)) refl (tablesOf 𝓤 H 𝓜 𝓣)
+    (cited 𝓤 H (ByRef stitched 𝓤 H (𝓖 .A)) 𝓜 𝓡 code.env called.name called.routine code.calls-passes·builder·Builder·stitch (met 𝓤 H 𝓜 𝓖 𝓡)))

@@ -10,8 +10,8 @@ use lib.ListN.{length, take, drop}
 use Rattle.rules.specs.Files.{linesOf, lastLabel}
 use Rattle.header.specs.Lines.{linesFrom}
 use Rattle.header.proofs.Lines.{lines-all, lines-none, label-here, label-before}
-use Rattle.header.proofs.last_label.Statement.{statement}
-use Rattle.header.proofs.last_label.Tie as tie
+use Rattle.header.proofs.last_label_at.Statement.{statement}
+use Rattle.header.proofs.last_label_at.Tie as tie
 
 abbrev Inv-loop : tie.InvT-loop
 Inv-loop s from₀ to₀ at₀ from to at =
@@ -63,24 +63,21 @@ loop-again c =
     rw (v .1, v .2) (h .inv .0, (h .inv .1 .0, (omega arith, l))))
     (c .if1 .came)
 
-sub-result : tie.Need-sub-result Inv-loop μ-loop
-sub-result c = omega arith
-
-part-result-start : tie.Need-part-result-start Inv-loop μ-loop
-part-result-start c = search needs
-
-part-result-end : tie.Need-part-result-end Inv-loop μ-loop
-part-result-end c = search needs
+sub-t12 : tie.Need-sub-t12 Inv-loop μ-loop
+sub-t12 c = omega arith
 
 returns : tie.Need-returns Inv-loop μ-loop
 unfolding lastLabel
 returns c =
-    let h = c .before .before .loop in
-    let a = c .before .before .before .before .args in
-    sym (h .inv .1 .1 .1 ∙ ap (lastLabel (take (h .to - h .from) (drop (h .from) (now (a .s))))) (lines-none (now (a .s)) (h .at) (omega arith)))
+    let h = c .before .loop in
+    let s = now (c .before .before .before .args .s) in
+    record {
+      inside = omega arith;
+      text = sym (h .inv .1 .1 .1 ∙ ap (lastLabel (take (h .to - h .from) (drop (h .from) s))) (lines-none s (h .at) (omega arith)));
+    }
 
-pub last-label-spec : {M : Type 1} → statement M
-last-label-spec =
+pub last-label-at-spec : {M : Type 1} → statement M
+last-label-at-spec =
     tie.close
     (tie.spec
     Inv-loop
@@ -95,7 +92,5 @@ last-label-spec =
     add-at
     loop-less
     loop-again
-    sub-result
-    part-result-start
-    part-result-end
+    sub-t12
     returns)

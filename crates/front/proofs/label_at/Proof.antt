@@ -1,0 +1,32 @@
+-- The place of the answer, and nothing under a refusal. Assumes nothing.
+use denote.Ref.{now}
+use Rattle.rules.specs.Files.{fileVerdict, labelTold}
+use Rattle.rules.specs.Refusals.{extensionOf}
+use Rattle.front.proofs.Labels.{found-there, found-nowhere}
+use borrow.Author.Needs.{needs}
+use Rattle.front.proofs.label_at.Statement.{statement}
+use Rattle.front.proofs.label_at.Tie as tie
+
+label-answer-requires : tie.Need-label-answer-requires
+label-answer-requires c κs = search needs
+
+enum-known-answer : tie.Need-enum-known-answer
+enum-known-answer c = search needs
+
+enum-told : tie.Need-enum-told
+enum-told c = search needs
+
+returns : tie.Need-returns
+returns c =
+    let a = c .before .before .before .before .before .args in
+    found-nowhere (now (a .file)) (c .enum-told .given .1) (extensionOf (now (a .ext))) (c .before .before .label-answer .ensures)
+
+returns-2 : tie.Need-returns-2
+returns-2 c =
+    let a = c .before .before .before .before .before .before .args in
+    let x = extensionOf (now (a .ext)) in
+    found-there (fileVerdict x (now (a .file))) (now (a .file)) (labelTold x (now (a .file))) (c .before .answer .given .1) (c .before .before .before .label-answer .ensures)
+
+pub label-at-spec : {M : Type 1} → statement M
+label-at-spec =
+    tie.close (tie.spec label-answer-requires enum-known-answer enum-told returns returns-2)

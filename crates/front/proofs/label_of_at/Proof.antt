@@ -1,0 +1,47 @@
+-- The label that the format has. Assumes nothing.
+use mathlib.Core.Path.{_≡_, refl}
+use native.Mathlib.Omega.{arith}
+use denote.Ref.{now}
+use Rattle.header.specs.Spans.{Holds}
+use Rattle.laws.specs.Arms.{pes-pec, exp-jef}
+use Rattle.rules.specs.Files.{labelOf, partStart}
+use Rattle.rules.specs.declared.Format.{Format}
+use Rattle.front.proofs.Labels.{nowhere}
+use borrow.Author.Needs.{needs}
+use Rattle.front.proofs.label_of_at.Statement.{statement}
+use Rattle.front.proofs.label_of_at.Tie as tie
+
+pec-label-at-requires : tie.Need-pec-label-at-requires
+pec-label-at-requires c κs = search needs
+
+enum-told : tie.Need-enum-told
+enum-told c = search needs
+
+dst-label-at-requires : tie.Need-dst-label-at-requires
+dst-label-at-requires c κs = search needs
+
+returns : tie.Need-returns
+unfolding labelOf
+returns c =
+    let a = c .before .before .before .args in
+    let s = now (a .file) in
+    pes-pec (λ (f : Format). a .start ≡ partStart f s → Holds (c .pec-label-at .result) s (labelOf f s))
+    (λ e. rw (← e) (c .pec-label-at .ensures)) (λ e. rw (← e) (c .pec-label-at .ensures))
+    (a .f) (c .before .match .keys1) (c .before .before .before .pre)
+
+returns-2 : tie.Need-returns-2
+unfolding labelOf
+returns-2 c = rw (c .before .enum-told .given .1) (c .dst-label-at .ensures)
+
+returns-3 : tie.Need-returns-3
+unfolding labelOf
+returns-3 c =
+    let a = c .before .before .args in
+    exp-jef (λ (f : Format). Holds nowhere (now (a .file)) (labelOf f (now (a .file))))
+    (record { inside = omega arith; text = refl }) (record { inside = omega arith; text = refl })
+    (a .f) (c .match .keys3)
+
+pub label-of-at-spec : {M : Type 1} → statement M
+label-of-at-spec =
+    tie.close
+    (tie.spec pec-label-at-requires enum-told dst-label-at-requires returns returns-2 returns-3)

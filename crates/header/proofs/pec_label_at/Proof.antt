@@ -1,0 +1,36 @@
+-- Sixteen bytes from the fourth on, as far as the file goes, without their blanks. Assumes nothing.
+use Prim.Native.Nat.{_+_}
+use mathlib.Core.Path.{ap, _∙_}
+use native.Mathlib.Omega.{arith}
+use denote.Ref.{now}
+use Rattle.rules.specs.Files.{trimmed}
+use Rattle.header.proofs.Spans.{cut}
+use borrow.Author.Needs.{needs}
+use Rattle.header.proofs.pec_label_at.Statement.{statement}
+use Rattle.header.proofs.pec_label_at.Tie as tie
+
+ahead-requires : tie.Need-ahead-requires
+ahead-requires c κs = search needs
+
+ahead-requires-2 : tie.Need-ahead-requires-2
+ahead-requires-2 c κs = search needs
+
+sub-trimmed-at : tie.Need-sub-trimmed-at
+sub-trimmed-at c = search needs
+
+trimmed-at-requires : tie.Need-trimmed-at-requires
+trimmed-at-requires c κs = search needs
+
+returns : tie.Need-returns
+returns c =
+    let a = c .before .before .before .before .args in
+    record {
+      inside = c .trimmed-at .ensures .inside;
+      text =
+          c .trimmed-at .ensures .text
+          ∙ ap trimmed (cut (now (a .file)) (a .start + 3) 16 (c .before .before .ahead .result) (c .before .ahead2 .result) (c .before .before .ahead .ensures) (omega arith));
+    }
+
+pub pec-label-at-spec : {M : Type 1} → statement M
+pec-label-at-spec =
+    tie.close (tie.spec ahead-requires ahead-requires-2 sub-trimmed-at trimmed-at-requires returns)
