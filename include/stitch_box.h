@@ -77,8 +77,9 @@ struct stitch_box_cmd {
 };
 
 /* stitch_box_write of a list of records. xs, ys and kinds are lent for its numbers, at least as many cells each as there are commands; size has
- * one cell, for the length. With slices too short, or another length of size, the call answers 11 and looks at nothing else. The archive is
- * target/staticlib/libcmds.a, made by `rt staticlib cmds`. */
+ * one cell, for the length. With slices too short, or another length of size, the call answers 11 and looks at nothing else. Else xs, ys and
+ * kinds hold the list's numbers afterwards, also where the list is refused. The archive is target/staticlib/libcmds.a, made by
+ * `rt staticlib cmds`. */
 uint32_t stitch_box_write_cmds(
     const uint8_t *ext, size_t ext_length,
     const uint8_t *name, size_t name_length,
