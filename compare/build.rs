@@ -21,7 +21,7 @@ const PUBLISHED: [&str; 8] = [
 /// Modules that `formats/mod.rs` names and that are ours here.
 const STANDINS: [&str; 3] = ["pen.rs", "preview.rs", "worksheet.rs"];
 
-/// The port's read for C.
+/// The port's calls for C.
 const ARCHIVE: &str = "libstitch_box_c.a";
 
 fn main() {

@@ -1,101 +1,186 @@
-//! The time of the published Rust's read and write and of the port's, in one run.
+//! Benchmarks: designs written and read, hostile files read, the depth of the
+//! stack, in one run.
 
-use crate::formats::read::read_stitch_file;
-use crate::lists::{self, List};
-use crate::oracle::{self, Command, Format};
-use crate::port::{self, Cells};
+use crate::hostile::{self, Body, Head};
+use crate::lists::{self, EDGE, List};
+use crate::oracle::{self, Command, Format, Ready};
+use crate::port::{self, Cells, Lists};
 use crate::random::Random;
-use std::hint::black_box;
-use std::time::{Duration, Instant};
+use crate::stack;
+use crate::timing::{Reads, Times, Writes};
 
 /// A design: the greatest step, the stitches of a run, and how many
 /// stitches there are, 500 of one colour.
-struct Design {
+pub struct Design {
+    pub name: &'static str,
     step: i32,
     run: usize,
-    stitches: usize,
+    pub stitches: usize,
 }
 
 /// The second has as many stitches as a list of 65,535 commands takes.
-const DESIGNS: [Design; 2] = [
+pub const DESIGNS: [Design; 2] = [
     Design {
+        name: "plain",
         step: 40,
         run: 60,
         stitches: 60_000,
     },
     Design {
+        name: "mix",
         step: 100,
         run: 2,
         stitches: 43_500,
     },
 ];
 
-/// No place lies further out on either axis.
-const EDGE: i32 = 16_000;
+/// Lengths of a hostile file, which show whether its time is linear.
+const LENGTHS: [usize; 3] = [1 << 21, 1 << 20, 1 << 19];
 
-/// Reads and writes each design in each format so many times; false if an answer differs.
+/// Rounds for each kind of hostile file, to find the worst.
+const SEARCH: usize = 3;
+
+/// Everything in so many rounds; false if an answer differs.
 pub fn run(rounds: usize) -> bool {
+    println!("times: medians of {rounds} rounds, in microseconds");
+    println!("ratio: the Rust's time over the port's, the median of the rounds");
     let mut same = true;
-    println!("median of {rounds} rounds, microseconds");
-    for design in DESIGNS {
-        let (step, run, stitches) = (design.step, design.run, design.stitches);
-        println!("\n{stitches} stitches, steps to {step}, {run} to a run");
-        println!("format    bytes   points  buffers      Rust      port  Rust/port");
-        let list = design.list();
-        for format in Format::ALL {
-            assert!(lists::accepted(format, &list.cmds, &list.threads));
-            let file = oracle::write(format, &list.name, &list.cmds, &list.threads);
-            same &= read(format, &file, rounds);
+    for design in &DESIGNS {
+        same &= designs(design, rounds);
+    }
+    same &= worst_hostile(rounds);
+    same & stack::print()
+}
+
+fn designs(design: &Design, rounds: usize) -> bool {
+    let (step, run, stitches) = (design.step, design.run, design.stitches);
+    println!("\n{stitches} stitches, steps to {step}, {run} to a run\n");
+    println!("| format | call | bytes | Rust | port | ratio | ratio of shortest |");
+    println!("|---|---|---|---|---|---|---|");
+    let list = design.list();
+    let (ready, lists) = (list.ready(), Lists::of(&list));
+    let mut same = true;
+    for format in Format::ALL {
+        let file = ready.write(format);
+        let cells = cells(format, &file);
+        for (call, lengths) in [
+            ("read, just", cells.lengths()),
+            ("read, ample", port::ample(file.len())),
+        ] {
+            let mut reads = Reads::new(format, &file, lengths);
+            same &= told(format, call, reads.right(&cells));
+            row(format, call, file.len(), &reads.times(rounds));
         }
-        println!("format    bytes  commands               Rust      port  Rust/port");
-        for format in Format::ALL {
-            same &= write(format, &list, rounds);
+        let mut writes = Writes::new(format, &ready, &lists);
+        same &= told(format, "write", writes.right());
+        row(format, "write", file.len(), &writes.times(rounds));
+    }
+    same
+}
+
+/// The published Rust's answer to a file in which fewer than eight blocks in a
+/// row are empty.
+pub fn cells(format: Format, file: &[u8]) -> Cells {
+    let answer = oracle::read_quickly(format.ext().as_bytes(), file);
+    Cells::of(&answer.expect("a file that is not refused"))
+}
+
+/// Says if an answer differs.
+fn told(format: Format, call: &str, same: bool) -> bool {
+    if !same {
+        println!("{} {call}: the answers differ", format.ext());
+    }
+    same
+}
+
+fn row(format: Format, call: &str, bytes: usize, times: &Times) {
+    let ext = format.ext().to_uppercase();
+    let [rust, port] = times.medians();
+    let [ratio, shortest] = times.ratios();
+    println!("| {ext} | {call} | {bytes} | {rust:.1} | {port:.1} | {ratio:.2} | {shortest:.2} |");
+}
+
+/// A kind of hostile file with the ratios of its shortest times, with buffers
+/// just long enough and with ample ones.
+type Kind = (Head, Body, [f64; 2]);
+
+/// The times of a hostile file with both sets of buffers; none if an answer
+/// differs.
+fn hostile(format: Format, kind: (Head, Body), length: usize, rounds: usize) -> Option<[Times; 2]> {
+    let file = hostile::file(format, kind.0, kind.1, length);
+    let cells = cells(format, &file);
+    let times = [cells.lengths(), port::ample(file.len())].map(|lengths| {
+        let mut reads = Reads::new(format, &file, lengths);
+        reads.right(&cells).then(|| reads.times(rounds))
+    });
+    match times {
+        [Some(just), Some(ample)] => Some([just, ample]),
+        _ => None,
+    }
+}
+
+/// All kinds of hostile file of a format.
+fn searched(format: Format, rounds: usize) -> Option<Vec<Kind>> {
+    let mut found = Vec::new();
+    for (head, body) in hostile::kinds(format) {
+        let times = hostile(format, (head, body), LENGTHS[0], rounds)?;
+        found.push((head, body, times.map(|times| times.ratios()[1])));
+    }
+    Some(found)
+}
+
+/// Prints the ratios of all kinds of hostile file.
+pub fn all_hostile(rounds: usize) -> bool {
+    println!("| format | kind | just | ample |\n|---|---|---|---|");
+    let mut same = true;
+    for format in Format::ALL {
+        let found = searched(format, rounds);
+        same &= told(format, "hostile file", found.is_some());
+        for (head, body, [just, ample]) in found.unwrap_or_default() {
+            let ext = format.ext().to_uppercase();
+            let (body, head) = (body.name(), head.name());
+            println!("| {ext} | {body}; {head} | {just:.2} | {ample:.2} |");
         }
     }
     same
 }
 
-/// One list written. What EXP's and JEF's writers of the Rust take to copy their
-/// list first is measured too and taken off.
-fn write(format: Format, list: &List, rounds: usize) -> bool {
-    let ext = format.ext();
-    let ready = oracle::Ready::new(&list.name, &list.cmds, &list.threads);
-    let lists = port::Lists::of(list);
-    let file = ready.write(format);
-    let mut out = vec![0xA5; file.len()];
-    if port::write(ext.as_bytes(), &lists, &mut out) != (0, file.len() as u64) || out != file {
-        println!("{ext}: the files differ");
-        return false;
+/// For each format and both sets of buffers the kind of file with the least
+/// ratio, and its times by length.
+fn worst_hostile(rounds: usize) -> bool {
+    println!("\nhostile files of 2,097,152 bytes: the kind with the least ratio\n");
+    print!("| format | call | kind | Rust | port | ratio | ratio of shortest ");
+    println!("| port, 2 MiB | 1 MiB | 1/2 MiB |");
+    println!("|---|---|---|---|---|---|---|---|---|---|");
+    let mut same = true;
+    for format in Format::ALL {
+        let found = searched(format, SEARCH);
+        same &= told(format, "hostile file", found.is_some());
+        for (at, call) in ["read, just", "read, ample"].into_iter().enumerate() {
+            let kinds = found.iter().flatten();
+            let Some(worst) = kinds.min_by(|a, b| a.2[at].total_cmp(&b.2[at])) else {
+                continue;
+            };
+            let (head, body, _) = *worst;
+            let times = LENGTHS.map(|length| hostile(format, (head, body), length, rounds));
+            let [Some(two), Some(one), Some(half)] = &times else {
+                same = told(format, call, false);
+                continue;
+            };
+            let [rust, port] = two[at].medians();
+            let [ratio, shortest] = two[at].ratios();
+            let [two, one, half] = [two, one, half].map(|times| times[at].shortest());
+            let kind = format!("{}; {}", body.name(), head.name());
+            let ext = format.ext().to_uppercase();
+            print!("| {ext} | {call} | {kind} | {rust:.0} | {port:.0} | {ratio:.2} | ");
+            println!("{shortest:.2} | {two:.0} | {one:.0} | {half:.0} |");
+        }
     }
-    let (mut rust, mut copy, mut port) = (Vec::new(), Vec::new(), Vec::new());
-    for _ in 0..rounds {
-        let start = Instant::now();
-        let written = black_box(black_box(&ready).write(format));
-        rust.push(start.elapsed());
-        drop(written);
-        let start = Instant::now();
-        black_box(ready.copied());
-        copy.push(start.elapsed());
-        let start = Instant::now();
-        black_box(port::write(ext.as_bytes(), black_box(&lists), &mut out));
-        port.push(start.elapsed());
-    }
-    let copies = matches!(format, Format::Exp | Format::Jef);
-    let off = if copies { median(copy) } else { Duration::ZERO };
-    let (rust, port) = (median(rust).saturating_sub(off), median(port));
-    let ratio = rust.as_secs_f64() / port.as_secs_f64();
-    println!(
-        "{ext:6} {:8} {:8}           {:9.1} {:9.1} {ratio:10.2}",
-        file.len(),
-        list.cmds.len(),
-        micros(rust),
-        micros(port)
-    );
-    true
+    same
 }
 
 impl Design {
-    fn list(&self) -> List {
+    pub fn list(&self) -> List {
         let mut random = Random::new(1);
         let mut cmds: Vec<Command> = Vec::new();
         let (mut x, mut y) = (0, 0);
@@ -126,87 +211,8 @@ impl Design {
     }
 }
 
-/// One file with buffers just long enough and with ample ones.
-fn read(format: Format, file: &[u8], rounds: usize) -> bool {
-    let ext = format.ext();
-    let reading = oracle::read(ext.as_bytes(), file).expect("a file written by the Rust");
-    let cells = Cells::of(&reading);
-    let mut same = true;
-    for (name, lengths) in [
-        ("just", cells.lengths()),
-        ("ample", port::ample(file.len())),
-    ] {
-        let mut lent = Lent::new(lengths);
-        if lent.read(ext, file) != 0 || !lent.holds(&cells) {
-            println!("{ext} {name}: the answers differ");
-            same = false;
-            continue;
-        }
-        let (rust, port) = times(ext, file, &mut lent, rounds);
-        let ratio = rust.as_secs_f64() / port.as_secs_f64();
-        println!(
-            "{ext:6} {:8} {:8}  {name:7} {:9.1} {:9.1} {ratio:10.2}",
-            file.len(),
-            cells.counts()[0],
-            micros(rust),
-            micros(port)
-        );
+impl List {
+    pub fn ready(&self) -> Ready {
+        Ready::new(&self.name, &self.cmds, &self.threads)
     }
-    same
-}
-
-/// Buffers that are lent again and again.
-struct Lent {
-    places: Vec<i32>,
-    runs: Vec<u32>,
-    blocks: Vec<u32>,
-    counts: [u32; 4],
-}
-
-impl Lent {
-    fn new([places, runs, blocks]: [usize; 3]) -> Lent {
-        Lent {
-            places: vec![-1; places],
-            runs: vec![u32::MAX; runs],
-            blocks: vec![u32::MAX; blocks],
-            counts: [0; 4],
-        }
-    }
-
-    fn read(&mut self, ext: &str, file: &[u8]) -> u32 {
-        let (places, runs, blocks) = (&mut self.places, &mut self.runs, &mut self.blocks);
-        port::read(ext.as_bytes(), file, places, runs, blocks, &mut self.counts)
-    }
-
-    fn holds(&self, cells: &Cells) -> bool {
-        self.counts == cells.counts()
-            && self.places.starts_with(&cells.places)
-            && self.runs.starts_with(&cells.runs)
-            && self.blocks.starts_with(&cells.blocks)
-    }
-}
-
-/// The median times of the Rust and the port, which take turns. What the Rust
-/// gives back is dropped outside its time.
-fn times(ext: &str, file: &[u8], lent: &mut Lent, rounds: usize) -> (Duration, Duration) {
-    let (mut rust, mut port) = (Vec::new(), Vec::new());
-    for _ in 0..rounds {
-        let start = Instant::now();
-        let read = black_box(read_stitch_file(black_box(file), ext));
-        rust.push(start.elapsed());
-        drop(read);
-        let start = Instant::now();
-        black_box(lent.read(ext, black_box(file)));
-        port.push(start.elapsed());
-    }
-    (median(rust), median(port))
-}
-
-fn median(mut times: Vec<Duration>) -> Duration {
-    times.sort();
-    times[times.len() / 2]
-}
-
-fn micros(time: Duration) -> f64 {
-    1e6 * time.as_secs_f64()
 }

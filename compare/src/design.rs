@@ -3,6 +3,7 @@
 
 use crate::formats::Cmd;
 use crate::geom::Polyline;
+use std::cell::RefCell;
 
 #[derive(Clone, Debug, Default)]
 pub struct Run {
@@ -21,6 +22,6 @@ pub struct Design {
     pub name: String,
     pub blocks: Vec<Block>,
     pub stitch_shapes: Vec<Vec<Vec<(usize, usize)>>>,
-    /// Ours: what `harness::commands` gives back.
-    pub ready: Vec<Cmd>,
+    /// Ours: what `harness::commands` takes away and gives back.
+    pub ready: RefCell<Vec<Cmd>>,
 }

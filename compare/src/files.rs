@@ -6,6 +6,7 @@ use crate::lists;
 use crate::oracle::{self, Format};
 use crate::random::Random;
 
+#[derive(Clone)]
 pub struct File {
     pub ext: Vec<u8>,
     pub bytes: Vec<u8>,
@@ -43,7 +44,7 @@ pub fn in_domain(file: &File) -> bool {
 }
 
 /// Where the PEC part of a PES starts, unless that is below zero.
-fn start(pes: &[u8]) -> Option<usize> {
+pub fn start(pes: &[u8]) -> Option<usize> {
     let field = pes.get(8..12)?.try_into().ok()?;
     usize::try_from(i32::from_le_bytes(field)).ok()
 }

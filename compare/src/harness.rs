@@ -7,7 +7,7 @@ pub use crate::formats::{
 };
 
 pub fn commands(design: &Design, _: &StreamOptions) -> Vec<Cmd> {
-    design.ready.clone()
+    design.ready.take()
 }
 
 include!(concat!(env!("OUT_DIR"), "/more.rs"));

@@ -5,6 +5,7 @@ use crate::formats::{jef_data::JEF_PALETTE, pec_data::PEC_PALETTE};
 use crate::oracle::{Command, Format};
 use crate::random::Random;
 
+#[derive(Clone)]
 pub struct List {
     pub name: Vec<u8>,
     pub cmds: Vec<Command>,
@@ -18,7 +19,7 @@ pub const STITCH: u8 = 0;
 pub const JUMP: u8 = 1;
 pub const TRIM: u8 = 2;
 pub const CHANGE: u8 = 3;
-const END: u8 = 4;
+pub const END: u8 = 4;
 
 /// No place lies further out on either axis.
 pub const EDGE: i32 = 16_000;

@@ -1,6 +1,6 @@
 //! Commands of the comparison; see README.md.
 
-use compare::{against, answers, bench, layout, many, port, samples, written};
+use compare::{against, answers, bench, layout, many, once, port, samples, written};
 use std::env;
 use std::ffi::OsString;
 use std::io;
@@ -9,7 +9,8 @@ use std::process::ExitCode;
 
 const USAGE: &str = "usage: compare samples | show EXT FILE | answers | check | \
     reads COUNT SEED FOLDER | \
-    writes COUNT SEED FOLDER | longs SEED FOLDER | against COUNT SEED | bench [ROUNDS]";
+    writes COUNT SEED FOLDER | longs SEED FOLDER | against COUNT SEED [THREADS] | \
+    bench [ROUNDS] | bench hostile [ROUNDS] | bench one DESIGN EXT CALL SIDE COUNT";
 
 fn main() -> ExitCode {
     let words: Vec<OsString> = env::args_os().skip(1).collect();
@@ -22,9 +23,11 @@ fn main() -> ExitCode {
         (Some("reads"), 4) => reads(&words[1], &words[2], &words[3]),
         (Some("writes"), 4) => writes(&words[1], &words[2], &words[3]),
         (Some("longs"), 3) => longs(&words[1], &words[2]),
-        (Some("against"), 3) => compare(&words[1], &words[2]),
-        (Some("bench"), 1) => time(21),
-        (Some("bench"), 2) => number(&words[1]).and_then(|rounds| time(rounds as usize)),
+        (Some("against"), 3) => compare(&words[1], &words[2], 1),
+        (Some("against"), 4) => {
+            number(&words[3]).and_then(|threads| compare(&words[1], &words[2], threads as usize))
+        }
+        (Some("bench"), _) => bench(&words[1..]),
         _ => {
             eprintln!("{USAGE}");
             return ExitCode::from(2);
@@ -60,18 +63,31 @@ fn longs(seed: &OsString, folder: &OsString) -> io::Result<bool> {
     written::write_long(number(seed)?, Path::new(folder)).map(|()| true)
 }
 
-fn compare(count: &OsString, seed: &OsString) -> io::Result<bool> {
+fn compare(count: &OsString, seed: &OsString, threads: usize) -> io::Result<bool> {
     let (count, seed) = (number(count)?, number(seed)?);
     port::needed()?;
-    Ok(against::compare(count as usize, seed))
+    Ok(against::compare(count as usize, seed, threads.max(1)))
 }
 
-fn time(rounds: usize) -> io::Result<bool> {
+fn bench(words: &[OsString]) -> io::Result<bool> {
     port::needed()?;
-    Ok(bench::run(rounds.max(1)))
+    let words: Vec<&str> = words.iter().filter_map(|word| word.to_str()).collect();
+    let rounds = |word: &str| count(word).map(|rounds| rounds.max(1) as usize);
+    match words[..] {
+        [] => Ok(bench::run(31)),
+        ["hostile"] => Ok(bench::all_hostile(5)),
+        ["hostile", word] => Ok(bench::all_hostile(rounds(word)?)),
+        ["one", design, ext, call, side, word] => once::run(design, ext, call, side, count(word)?),
+        [word] => Ok(bench::run(rounds(word)?)),
+        _ => Err(io::Error::other(USAGE)),
+    }
 }
 
 fn number(word: &OsString) -> io::Result<u64> {
-    let number = word.to_str().and_then(|word| word.parse().ok());
+    count(&word.to_string_lossy())
+}
+
+fn count(word: &str) -> io::Result<u64> {
+    let number = word.parse().ok();
     number.ok_or_else(|| io::Error::other(format!("{word:?} is no number; {USAGE}")))
 }

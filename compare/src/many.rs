@@ -8,9 +8,10 @@ use crate::bytes::put_long;
 use crate::files::{self, EXTS, File, PAIRS, STEPS, THIRDS};
 use crate::oracle::{self, Answer, Format};
 use crate::random::Random;
-use crate::{headers, lists, numbers, records};
+use crate::{headers, high, lists, numbers, records};
 use std::io::{BufWriter, Write};
 use std::path::Path;
+use std::sync::Arc;
 use std::{fs, io};
 
 /// Bytes that matter to some format.
@@ -27,12 +28,14 @@ pub struct Case {
     pub bytes: Vec<u8>,
 }
 
+/// Files written from the lists of the list of writes, for each format.
+pub type Boundary = Arc<Vec<Vec<Vec<u8>>>>;
+
 /// The cases of a seed, without end.
 pub struct Many {
     random: Random,
     made: usize,
-    /// Files written from the lists of the list of writes, for each format.
-    boundary: Vec<Vec<Vec<u8>>>,
+    boundary: Boundary,
     sweeps: Vec<Sweep>,
 }
 
@@ -82,21 +85,44 @@ impl Iterator for Many {
 
 impl Many {
     pub fn new(seed: u64) -> Many {
-        let mut random = Random::new(seed);
-        let boundary = |format: Format| {
-            let lists = lists::all(format, seed);
-            let write = |list: &lists::List| written(format, list);
-            lists.iter().map(write).collect()
-        };
+        Many::from(boundary(seed), Random::new(seed))
+    }
+
+    fn from(boundary: Boundary, mut random: Random) -> Many {
         let sweep = |format: Format| Sweep {
             whole: short(format, &mut random),
             next: 0,
         };
         Many {
-            boundary: Format::ALL.map(boundary).into(),
+            boundary,
             sweeps: Format::ALL.map(sweep).into(),
             random,
             made: 0,
+        }
+    }
+
+    /// The files from one on, of random numbers of their own; their sweeps begin
+    /// anywhere.
+    pub fn part(boundary: &Boundary, first: usize, random: Random) -> Many {
+        let mut many = Many::from(boundary.clone(), random);
+        many.made = first;
+        for sweep in &mut many.sweeps {
+            sweep.next = many.random.below(sweep.whole.len() + 1);
+        }
+        many
+    }
+
+    /// The next file of a part, and as the published Rust is asked about it.
+    pub fn any(&mut self) -> (File, Vec<u8>) {
+        loop {
+            let mut file = self.file();
+            if self.random.below(24) == 0 {
+                high::raise(&mut file, &mut self.random);
+            }
+            if let Some(asked) = high::in_ascii(&file) {
+                self.made += 1;
+                return (file, asked);
+            }
         }
     }
 
@@ -189,6 +215,15 @@ impl Many {
     }
 }
 
+pub fn boundary(seed: u64) -> Boundary {
+    let files = |format: Format| {
+        let lists = lists::all(format, seed);
+        let write = |list: &lists::List| written(format, list);
+        lists.iter().map(write).collect()
+    };
+    Arc::new(Format::ALL.map(files).into())
+}
+
 fn written(format: Format, list: &lists::List) -> Vec<u8> {
     oracle::write(format, &list.name, &list.cmds, &list.threads)
 }
@@ -246,50 +281,4 @@ fn edit(format: Format, bytes: &mut Vec<u8>, random: &mut Random) {
             bytes.remove(at);
         }
     }
-}
-
-/// Lengths of files that no list of reads can hold, the last one refused.
-const LONG: [usize; 8] = [
-    65_536, 65_537, 131_071, 300_001, 1_048_577, 2_097_151, 2_097_152, 2_097_153,
-];
-
-/// Long files of each format and length, with few colour changes and with as
-/// many as there can be; fewer than eight blocks in a row are empty.
-pub fn long(seed: u64) -> impl Iterator<Item = File> {
-    let mut random = Random::new(seed);
-    let formats = Format::ALL.into_iter();
-    let lengths = formats.flat_map(|format| LONG.map(|length| (format, length)));
-    let all = lengths.flat_map(|(format, length)| [0, 6, 3000].map(|most| (format, length, most)));
-    all.map(move |(format, length, most)| {
-        let body = records::going(format, length, most, &mut random);
-        let mut bytes = headers::plain(format, &body, &mut random);
-        bytes.truncate(length);
-        let ext = format.ext().as_bytes().to_vec();
-        File { ext, bytes }
-    })
-}
-
-/// Long files that are refused, or start at their last bytes.
-pub fn long_odd() -> Vec<File> {
-    const LENGTH: i32 = oracle::LONGEST as i32;
-    let mut files = Vec::new();
-    for ext in EXTS {
-        for length in [oracle::LONGEST, oracle::LONGEST + 1] {
-            let bytes = vec![0; length];
-            files.push(File {
-                ext: ext.to_vec(),
-                bytes,
-            });
-        }
-    }
-    for before in [0, 1, 2, 3, 47, 48, 49, 50, 528, 530] {
-        let part = vec![1; oracle::LONGEST - 12];
-        files.push(files::pes_file(LENGTH - before, 0, &part));
-        let body = vec![1; oracle::LONGEST - 116];
-        files.push(File {
-            ext: b"jef".to_vec(),
-            bytes: files::jef_file(LENGTH - before, 3, &[], &body),
-        });
-    }
-    files
 }

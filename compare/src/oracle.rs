@@ -79,6 +79,7 @@ pub fn write(format: Format, name: &[u8], cmds: &[Command], threads: &[[u8; 3]])
 pub struct Ready {
     name: String,
     threads: Vec<[u8; 3]>,
+    cmds: Vec<Cmd>,
     design: Design,
 }
 
@@ -87,28 +88,38 @@ impl Ready {
         Ready {
             name: String::from_utf8(name.to_vec()).expect("a name in UTF-8"),
             threads: threads.to_vec(),
-            design: design(cmds.iter().map(command).collect(), threads),
+            cmds: cmds.iter().map(command).collect(),
+            design: design(threads),
         }
     }
 
     pub fn write(&self, format: Format) -> Vec<u8> {
-        let (name, ready, threads) = (&self.name, &self.design.ready, &self.threads);
-        match format {
-            Format::Pes => pes::pes_from_stream(name, ready, threads),
-            Format::Pec => {
-                let mut file = b"#PEC0001".to_vec();
-                pes::write_pec(&mut file, name, ready, threads);
-                file
-            }
-            Format::Dst => dst::dst_from_stream(name, ready),
-            Format::Exp => harness::more::write_exp_with(&self.design, &options()),
-            Format::Jef => harness::more::write_jef_with(&self.design, &options()),
+        self.lay(format);
+        self.write_laid(format)
+    }
+
+    /// Lays a copy of the list ready for the writers of EXP and JEF, which make
+    /// theirs from the design and so take it away.
+    pub fn lay(&self, format: Format) {
+        if matches!(format, Format::Exp | Format::Jef) {
+            self.design.ready.replace(self.cmds.clone());
         }
     }
 
-    /// The list as EXP's and JEF's writers get it handed: a copy.
-    pub fn copied(&self) -> usize {
-        std::hint::black_box(self.design.ready.clone()).len()
+    /// The file, the list being laid ready.
+    pub fn write_laid(&self, format: Format) -> Vec<u8> {
+        let (name, cmds, threads) = (&self.name, &self.cmds, &self.threads);
+        match format {
+            Format::Pes => pes::pes_from_stream(name, cmds, threads),
+            Format::Pec => {
+                let mut file = b"#PEC0001".to_vec();
+                pes::write_pec(&mut file, name, cmds, threads);
+                file
+            }
+            Format::Dst => dst::dst_from_stream(name, cmds),
+            Format::Exp => harness::more::write_exp_with(&self.design, &options()),
+            Format::Jef => harness::more::write_jef_with(&self.design, &options()),
+        }
     }
 }
 
@@ -116,14 +127,13 @@ fn options() -> ExportOptions {
     ExportOptions::default()
 }
 
-fn design(ready: Vec<Cmd>, threads: &[[u8; 3]]) -> Design {
+fn design(threads: &[[u8; 3]]) -> Design {
     let block = |&color: &[u8; 3]| Colour {
         color,
         ..Default::default()
     };
     Design {
         blocks: threads.iter().map(block).collect(),
-        ready,
         ..Default::default()
     }
 }

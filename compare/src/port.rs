@@ -23,6 +23,15 @@ mod archive {
             counts_length: usize,
         ) -> u32;
 
+        pub fn stitch_box_label(
+            ext: *const u8,
+            ext_length: usize,
+            file: *const u8,
+            file_length: usize,
+            place: *mut u64,
+            place_length: usize,
+        ) -> u32;
+
         pub fn stitch_box_write(
             ext: *const u8,
             ext_length: usize,
@@ -44,6 +53,7 @@ mod archive {
 }
 
 /// A list as the port takes it.
+#[derive(Clone)]
 pub struct Lists {
     pub name: Vec<u8>,
     pub xs: Vec<i32>,
@@ -128,6 +138,28 @@ pub fn read(
 
 #[cfg(not(stitch_box))]
 pub fn read(_: &[u8], _: &[u8], _: &mut [i32], _: &mut [u32], _: &mut [u32], _: &mut [u32]) -> u32 {
+    panic!("{MISSING}")
+}
+
+/// Finds a file's label: 0 or the number of the refusal. The place is start and
+/// length.
+#[cfg(stitch_box)]
+pub fn label(ext: &[u8], file: &[u8], place: &mut [u64]) -> u32 {
+    // SAFETY: each pointer comes with the length of its slice.
+    unsafe {
+        archive::stitch_box_label(
+            ext.as_ptr(),
+            ext.len(),
+            file.as_ptr(),
+            file.len(),
+            place.as_mut_ptr(),
+            place.len(),
+        )
+    }
+}
+
+#[cfg(not(stitch_box))]
+pub fn label(_: &[u8], _: &[u8], _: &mut [u64]) -> u32 {
     panic!("{MISSING}")
 }
 

@@ -7,6 +7,11 @@ impl Random {
         Random(seed)
     }
 
+    /// The numbers of one part of a seed.
+    pub fn of_part(seed: u64, part: u64) -> Random {
+        Random(Random(seed).draw() ^ Random(!part).draw())
+    }
+
     pub fn draw(&mut self) -> u64 {
         self.0 = self.0.wrapping_add(0x9E37_79B9_7F4A_7C15);
         let mut z = self.0;

@@ -106,7 +106,7 @@ fn put_longer(out: &mut Vec<u8>, bytes: &[u8]) {
 }
 
 /// The boundary lists of one format.
-fn boundary(format: Format, seed: u64) -> Vec<List> {
+pub fn boundary(format: Format, seed: u64) -> Vec<List> {
     let mut found = lists::every(format, seed);
     found.extend(borders::all(format, seed));
     found
@@ -114,7 +114,7 @@ fn boundary(format: Format, seed: u64) -> Vec<List> {
 
 /// A random list; most are short. Every third of PEC and PES is for its
 /// thumbnails.
-fn any(format: Format, random: &mut Random) -> List {
+pub fn any(format: Format, random: &mut Random) -> List {
     let pictured = matches!(format, Format::Pes | Format::Pec);
     let mut list = if pictured && random.below(3) == 0 {
         let script = pictures::any(format, random);
@@ -134,7 +134,7 @@ fn any(format: Format, random: &mut Random) -> List {
 }
 
 /// A name in UTF-8: letters, controls, blanks and characters of more bytes.
-fn name(random: &mut Random) -> Vec<u8> {
+pub fn name(random: &mut Random) -> Vec<u8> {
     let length = random.below(30);
     let letter = |random: &mut Random| match random.below(6) {
         0 => char::from(random.byte() % 0x20),

@@ -1,0 +1,23 @@
+#!/usr/bin/env bash
+# Instructions per stitch of the published Rust and of the port, by callgrind: only the calls themselves are counted.
+# PROGRAM is the built comparison, target/release/compare unless told. Prints a table; some minutes.
+cd "$(dirname "$0")" || exit 2
+program=${PROGRAM:-target/release/compare}
+
+# DESIGN EXT CALL SIDE: instructions of one call.
+count() {
+    valgrind --tool=callgrind --callgrind-out-file=/dev/null --toggle-collect=counted "$program" bench one "$@" 1 2>&1 |
+        awk '/Collected/ { n = $NF } / stitches$/ { stitches = $1 } END { if (!n) exit 1; print n / stitches }'
+}
+
+echo "| design | format | call | Rust | port | ratio |"
+echo "|---|---|---|---|---|---|"
+for design in ${DESIGNS:-plain mix}; do
+    for ext in pes pec dst exp jef; do
+        for call in read-just read-ample write; do
+            rust=$(count "$design" "$ext" "$call" rust) && port=$(count "$design" "$ext" "$call" port) || exit 1
+            awk -v d="$design" -v e="${ext^^}" -v c="${call/-/, }" -v r="$rust" -v p="$port" \
+                'BEGIN { printf "| %s | %s | %s | %.1f | %.1f | %.2f |\n", d, e, c, r, p, r / p }'
+        done
+    done
+done
