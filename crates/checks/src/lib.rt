@@ -1,16 +1,15 @@
 // What is asked of a list of commands and its threads before it is written: refusals 6 to 10.
-// Each check goes over the whole list, for slices of any lengths.
-use geom::span;
+// Each check goes over the whole list, for slices of any lengths, with no early exit: so its loop compiles to vector instructions.
 use rules::Format;
-use rules::Op;
 use rules::Refusal;
 use rules::Verdict;
 ghost use mathlib.Core.Path.{_≡_};
-ghost use mathlib.Core.Bool.{_&&_, not};
+ghost use mathlib.Core.Bool.{false, _&&_, not};
+ghost use Prim.Native.Nat.{_≤_};
 ghost use lib.Dec.{ltb};
-ghost use lib.IntN.{_-ℤ_};
+ghost use lib.ListN.{length};
 ghost use Rattle.rules.specs.Vocabulary.{between, eqZ, any, count};
-ghost use Rattle.rules.specs.Lists.{commands, opOf, endsOnce, placed, samePlace, isChange, stands, leastStep, greatestStep, stepIn};
+ghost use Rattle.rules.specs.Lists.{commands, opOf, endsOnce, placed, samePlace, isChange, stands, leastStep, greatestStep};
 ghost use Rattle.rules.specs.Refusals.{numberOf, badList, placeOutside, changes, tooMany, moved, stepTooLong, listVerdict};
 
 // The number of a refusal.
@@ -32,10 +31,10 @@ pub fn number(r: Refusal) -> u32
     }
 }
 
-fn is_between(lo: i64, hi: i64, z: i64) -> bool
+fn is_between(lo: i32, hi: i32, z: i32) -> bool
     ensures { λ r. ⌜ r ≡ between lo hi z ⌝ }
 {
-    if lo <= z { z <= hi } else { false }
+    (lo <= z) & (z <= hi)
 }
 
 fn is_same(a: i32, b: i32) -> bool
@@ -48,14 +47,13 @@ fn is_same(a: i32, b: i32) -> bool
 fn kind_over(kinds: &[u8]) -> bool
     ensures { λ r. ⌜ r ≡ any (ltb 4) (now (kinds .entry)) ⌝ }
 {
+    let mut bad = false;
     let mut i = 0;
     while i < kinds.len() {
-        if 4 < kinds[i] {
-            return true;
-        }
+        bad = bad | (4 < kinds[i]);
         i += 1;
     }
-    false
+    bad
 }
 
 // 6: the last kind, and only that, is an end.
@@ -65,14 +63,13 @@ fn ends_once(kinds: &[u8]) -> bool
     if kinds.len() == 0 {
         return false;
     }
+    let mut early = false;
     let mut i = 0;
     while i + 1 < kinds.len() {
-        if kinds[i] == 4 {
-            return false;
-        }
+        early = early | (kinds[i] == 4);
         i += 1;
     }
-    kinds[i] == 4
+    !early & (kinds[i] == 4)
 }
 
 pub fn bad_list(xs: &[i32], ys: &[i32], kinds: &[u8]) -> bool
@@ -100,10 +97,7 @@ pub fn bad_list(xs: &[i32], ys: &[i32], kinds: &[u8]) -> bool
 fn is_placed(x: i32, y: i32) -> bool
     ensures { λ r. ⌜ r ≡ placed x y ⌝ }
 {
-    if is_between(-16000, 16000, x as i64) {
-        return is_between(-16000, 16000, y as i64);
-    }
-    false
+    is_between(-16000, 16000, x) & is_between(-16000, 16000, y)
 }
 
 // 7: a place outside the range.
@@ -111,44 +105,40 @@ pub fn place_outside(xs: &[i32], ys: &[i32], kinds: &[u8]) -> bool
     ensures { λ r. ⌜ r ≡ placeOutside (commands (now (xs .entry)) (now (ys .entry)) (now (kinds .entry))) ⌝ }
 {
     let n = formats::list_len(xs, ys, kinds);
+    let mut bad = false;
     let mut i = 0;
     while i < n {
-        if !is_placed(xs[i], ys[i]) {
-            return true;
-        }
+        bad = bad | !is_placed(xs[i], ys[i]);
         i += 1;
     }
-    false
+    bad
 }
 
+// Kind 3.
 fn is_change(kind: u8) -> bool
     ensures { λ r. ⌜ r ≡ isChange (opOf kind) ⌝ }
 {
-    let op = formats::op_of(kind);
-    match op {
-        Op::ColorChange => true,
-        Op::Stitch | Op::Jump | Op::Trim | Op::End => false,
-    }
+    kind == 3
 }
 
 // How many commands change the colour.
 pub fn color_changes(xs: &[i32], ys: &[i32], kinds: &[u8]) -> usize
+    requires { ⌜ length (now kinds) ≤ 65535 ⌝ }
     ensures { λ r. ⌜ r ≡ count changes (commands (now (xs .entry)) (now (ys .entry)) (now (kinds .entry))) ⌝ }
 {
     let n = formats::list_len(xs, ys, kinds);
-    let mut found = 0;
+    let mut found: u16 = 0;
     let mut i = 0;
     while i < n {
-        if is_change(kinds[i]) {
-            found += 1;
-        }
+        found += is_change(kinds[i]) as u16;
         i += 1;
     }
-    found
+    found as usize
 }
 
 // 8: too many colour changes or threads, or thread bytes not a multiple of three.
 pub fn too_many(xs: &[i32], ys: &[i32], kinds: &[u8], threads: &[u8]) -> bool
+    requires { ⌜ length (now kinds) ≤ 65535 ⌝ }
     ensures { λ r. ⌜ r ≡ tooMany (commands (now (xs .entry)) (now (ys .entry)) (now (kinds .entry))) (now (threads .entry)) ⌝ }
 {
     if 254 < color_changes(xs, ys, kinds) {
@@ -160,32 +150,23 @@ pub fn too_many(xs: &[i32], ys: &[i32], kinds: &[u8], threads: &[u8]) -> bool
     threads.len() % 3 != 0
 }
 
+// From kind 2 up: trim, colour change and end.
 fn is_standing(kind: u8) -> bool
     ensures { λ r. ⌜ r ≡ stands (opOf kind) ⌝ }
 {
-    let op = formats::op_of(kind);
-    match op {
-        Op::Stitch | Op::Jump => false,
-        Op::Trim | Op::ColorChange | Op::End => true,
-    }
+    1 < kind
 }
 
 fn is_same_place(x0: i32, y0: i32, x: i32, y: i32) -> bool
     ensures { λ r. ⌜ r ≡ samePlace x0 y0 x y ⌝ }
 {
-    if is_same(x0, x) {
-        return is_same(y0, y);
-    }
-    false
+    is_same(x0, x) & is_same(y0, y)
 }
 
 fn moves(kind: u8, x0: i32, y0: i32, x: i32, y: i32) -> bool
     ensures { λ r. ⌜ r ≡ (stands (opOf kind) && not (samePlace x0 y0 x y)) ⌝ }
 {
-    if is_standing(kind) {
-        return !is_same_place(x0, y0, x, y);
-    }
-    false
+    is_standing(kind) & !is_same_place(x0, y0, x, y)
 }
 
 // 9: a trim, colour change or end that moves.
@@ -195,21 +176,20 @@ pub fn moved(xs: &[i32], ys: &[i32], kinds: &[u8]) -> bool
     let n = formats::list_len(xs, ys, kinds);
     let mut x: i32 = 0;
     let mut y: i32 = 0;
+    let mut bad = false;
     let mut i = 0;
     while i < n {
         let nx = xs[i];
         let ny = ys[i];
-        if moves(kinds[i], x, y, nx, ny) {
-            return true;
-        }
+        bad = bad | moves(kinds[i], x, y, nx, ny);
         x = nx;
         y = ny;
         i += 1;
     }
-    false
+    bad
 }
 
-fn least_step(f: Format) -> i64
+fn least_step(f: Format) -> i32
     ensures { λ r. ⌜ r ≡ leastStep f ⌝ }
 {
     match f {
@@ -219,7 +199,7 @@ fn least_step(f: Format) -> i64
     }
 }
 
-fn greatest_step(f: Format) -> i64
+fn greatest_step(f: Format) -> i32
     ensures { λ r. ⌜ r ≡ greatestStep f ⌝ }
 {
     match f {
@@ -229,42 +209,33 @@ fn greatest_step(f: Format) -> i64
     }
 }
 
-fn is_step_in(f: Format, dx: i64, dy: i64) -> bool
-    ensures { λ r. ⌜ r ≡ stepIn f dx dy ⌝ }
+fn is_step_in(lo: i32, hi: i32, dx: i32, dy: i32) -> bool
+    ensures { λ r. ⌜ r ≡ (between lo hi dx && between lo hi dy) ⌝ }
 {
-    let lo = least_step(f);
-    let hi = greatest_step(f);
-    if is_between(lo, hi, dx) {
-        return is_between(lo, hi, dy);
-    }
-    false
-}
-
-fn steps_past(f: Format, x0: i32, y0: i32, x: i32, y: i32) -> bool
-    ensures { λ r. ⌜ r ≡ not (stepIn f (x -ℤ x0) (y -ℤ y0)) ⌝ }
-{
-    !is_step_in(f, span(x0, x), span(y0, y))
+    is_between(lo, hi, dx) & is_between(lo, hi, dy)
 }
 
 // 10: a step past the format's limit.
 pub fn step_too_long(f: Format, xs: &[i32], ys: &[i32], kinds: &[u8]) -> bool
+    requires { ⌜ placeOutside (commands (now xs) (now ys) (now kinds)) ≡ false ⌝ }
     ensures { λ r. ⌜ r ≡ stepTooLong f (commands (now (xs .entry)) (now (ys .entry)) (now (kinds .entry))) ⌝ }
 {
     let n = formats::list_len(xs, ys, kinds);
+    let lo = least_step(f);
+    let hi = greatest_step(f);
     let mut x: i32 = 0;
     let mut y: i32 = 0;
+    let mut bad = false;
     let mut i = 0;
     while i < n {
         let nx = xs[i];
         let ny = ys[i];
-        if steps_past(f, x, y, nx, ny) {
-            return true;
-        }
+        bad = bad | !is_step_in(lo, hi, nx - x, ny - y);
         x = nx;
         y = ny;
         i += 1;
     }
-    false
+    bad
 }
 
 // The first of refusals 6 to 10 that holds, each over the whole list before the next.

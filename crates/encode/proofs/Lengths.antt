@@ -1,107 +1,109 @@
--- The bytes of a command are as many whatever its step; those of a list are the sum. Assumes nothing.
-use Prim.Native.Nat.{ℕ, _+_, _*_, _≤_, _<_}
+-- How many bytes commands are, told by how many of them are stitches, controls and trims. Assumes nothing.
+use Prim.Native.Nat.{ℕ, zero, suc, _+_, _*_, _≤_, _<_}
 use mathlib.Core.Path.{_≡_, refl}
 use mathlib.Core.List.{List, [], _∷_}
 use native.Mathlib.Omega.{arith}
+use native.Mathlib.Numerals.{one-add}
+use borrow.Author.Tests.{lt-leb}
+use lib.Dec.{leb}
 use lib.IntN.{ℤ, pos, _-ℤ_}
-use lib.ListN.{length, drop, getD, length-append}
+use lib.ListN.{length, take, length-append, length-take}
+use Rattle.rules.specs.Vocabulary.{pick, count}
 use Rattle.rules.specs.Dst.{dstBytes, dstCmd}
 use Rattle.rules.specs.Exp.{pairOf, expCmd}
 use Rattle.rules.specs.Jef.{jefCmd}
 use Rattle.rules.specs.Lists.{opOf, commands, written}
 use Rattle.rules.specs.declared.Cmd.{Cmd}
+use Rattle.rules.specs.declared.Op.{Op}
 use Rattle.rules.specs.declared.Format.{Format}
 use Rattle.rules.specs.declared.Format.the-variants.{Pes, Pec, Dst, Exp, Jef}
-use Rattle.rules.specs.declared.Op.{Op}
-use Rattle.rules.specs.declared.Op.the-variants.{Stitch, Jump, Trim, ColorChange, End}
-use Rattle.laws.specs.Listing.{commands-more, length-commands, list-end}
-use Rattle.encode.specs.Cmds.{cmdOf, lenOf}
+use Rattle.laws.specs.Tests.{and-no-right, pick-false}
+use Rattle.laws.specs.Listing.{length-commands, count-le}
+use Rattle.encode.specs.Cmds.{cmdOf, kindIn}
 
-dst-long : (op : Op) (dx dy : ℤ) → length (dstCmd op dx dy) ≡ lenOf Dst op
-unfolding lenOf dstCmd dstBytes
-dst-long Stitch dx dy = refl
-dst-long Jump dx dy = refl
-dst-long Trim dx dy = refl
-dst-long ColorChange dx dy = refl
-dst-long End dx dy = refl
+-- t bytes of n commands, s of them stitches, c of kinds 1 to 3 and r trims
+abbrev pub Sum : Format → ℕ → ℕ → ℕ → ℕ → ℕ → Type 0
+Sum Pes t n s c r = t ≡ 0
+Sum Pec t n s c r = t ≡ 0
+Sum Dst t n s c r = t ≡ 3 * n + 6 * r
+Sum Exp t n s c r = t ≡ 2 * s + 4 * c
+Sum Jef t n s c r = t + 4 * r ≡ 2 * n + 2 * c
 
-exp-long : (op : Op) (dx dy : ℤ) → length (expCmd op dx dy) ≡ lenOf Exp op
-unfolding lenOf expCmd pairOf
-exp-long Stitch dx dy = refl
-exp-long Jump dx dy = refl
-exp-long Trim dx dy = refl
-exp-long ColorChange dx dy = refl
-exp-long End dx dy = refl
+-- a kind over the range is not counted
+over : (lo hi k : ℕ) → hi < k → _≡_ {A = ℕ} (pick (kindIn lo hi k) 1 0) 0
+over lo hi k h = pick-false 1 0 (and-no-right (leb lo k) (leb k hi) (lt-leb k hi h))
 
-jef-long : (op : Op) (dx dy : ℤ) → length (jefCmd op dx dy) ≡ lenOf Jef op
-unfolding lenOf jefCmd pairOf
-jef-long Stitch dx dy = refl
-jef-long Jump dx dy = refl
-jef-long Trim dx dy = refl
-jef-long ColorChange dx dy = refl
-jef-long End dx dy = refl
+-- of one command
+one-sum : (f : Format) (k : ℕ) (dx dy : ℤ)
+    → Sum f (length (cmdOf f (opOf k) dx dy)) 1 (pick (kindIn 0 0 k) 1 0) (pick (kindIn 1 3 k) 1 0) (pick (kindIn 2 2 k) 1 0)
+unfolding opOf dstCmd dstBytes expCmd jefCmd pairOf
+one-sum Pes k dx dy = omega arith
+one-sum Pec k dx dy = omega arith
+one-sum Dst zero dx dy = omega arith
+one-sum Dst (suc zero) dx dy = omega arith
+one-sum Dst (suc (suc zero)) dx dy = omega arith
+one-sum Dst (suc (suc (suc zero))) dx dy = omega arith
+one-sum Dst (suc (suc (suc (suc k)))) dx dy = omega (arith, over 2 2 (suc (suc (suc (suc k)))) (omega arith))
+one-sum Exp zero dx dy = omega arith
+one-sum Exp (suc zero) dx dy = omega arith
+one-sum Exp (suc (suc zero)) dx dy = omega arith
+one-sum Exp (suc (suc (suc zero))) dx dy = omega arith
+one-sum Exp (suc (suc (suc (suc k)))) dx dy = let m = suc (suc (suc (suc k))) in omega (arith, over 0 0 m (omega arith), over 1 3 m (omega arith))
+one-sum Jef zero dx dy = omega arith
+one-sum Jef (suc zero) dx dy = omega arith
+one-sum Jef (suc (suc zero)) dx dy = omega arith
+one-sum Jef (suc (suc (suc zero))) dx dy = omega arith
+one-sum Jef (suc (suc (suc (suc k)))) dx dy = let m = suc (suc (suc (suc k))) in omega (arith, over 1 3 m (omega arith), over 2 2 m (omega arith))
 
-long : (f : Format) (op : Op) (dx dy : ℤ) → length (cmdOf f op dx dy) ≡ lenOf f op
-unfolding lenOf
-long Pes op dx dy = refl
-long Pec op dx dy = refl
-long Dst op dx dy = dst-long op dx dy
-long Exp op dx dy = exp-long op dx dy
-long Jef op dx dy = jef-long op dx dy
+-- of commands and more commands
+pub record Told (f : Format) (t n s c r : ℕ) : Type 0 where
+  pub told : Sum f t n s c r
 
--- the bytes of all commands
-pub total : Format → List Cmd → ℕ
-total f [] = 0
-total f (c ∷ cs) = lenOf f (opOf (c .kind)) + total f cs
+both : (f : Format) {t n s c r t′ n′ s′ c′ r′ : ℕ} → Told f t n s c r → Told f t′ n′ s′ c′ r′ → Told f (t + t′) (n + n′) (s + s′) (c + c′) (r + r′)
+both Pes p q = record { told = omega arith }
+both Pec p q = record { told = omega arith }
+both Dst p q = record { told = omega arith }
+both Exp p q = record { told = omega arith }
+both Jef p q = record { told = omega arith }
 
-pub total-is : (f : Format) (x y : ℤ) (cs : List Cmd) → length (written (cmdOf f) x y cs) ≡ total f cs
-unfolding written total
-total-is f x y [] = refl
-total-is f x y (c ∷ cs) =
-    let op = opOf (c .kind) in
-    let dx = c .x -ℤ x in
-    let dy = c .y -ℤ y in
-    omega (arith, length-append (cmdOf f op dx dy) (written (cmdOf f) (c .x) (c .y) cs), long f op dx dy, total-is f (c .x) (c .y) cs)
+-- of none
+none : (f : Format) → Told f 0 0 0 0 0
+none Pes = record { told = omega arith }
+none Pec = record { told = omega arith }
+none Dst = record { told = omega arith }
+none Exp = record { told = omega arith }
+none Jef = record { told = omega arith }
 
--- a loop that adds: one more command, and the end
-module _ (f : Format) (xs ys : List ℤ) (ks : List ℕ) (i : ℕ) where
-  pub total-more : i < length (commands xs ys ks)
-      → total f (drop i (commands xs ys ks)) ≡ lenOf f (opOf (getD ks i 0)) + total f (drop (i + 1) (commands xs ys ks))
-  unfolding total
-  total-more l = rw (commands-more xs ys ks i l)
+-- of all
+pub lengths : (f : Format) (x y : ℤ) (xs ys : List ℤ) (ks : List ℕ)
+    → (let cs = commands xs ys ks in
+    let kinds = take (length cs) ks in
+    Told f (length (written (cmdOf f) x y cs)) (length cs) (count (kindIn 0 0) kinds) (count (kindIn 1 3) kinds) (count (kindIn 2 2) kinds))
+unfolding commands written count
+lengths f x y [] ys ks = none f
+lengths f x y (a ∷ xs) [] ks = none f
+lengths f x y (a ∷ xs) (b ∷ ys) [] = none f
+lengths f x y (a ∷ xs) (b ∷ ys) (k ∷ ks) =
+    rw (length-append, ← one-add)
+    (both f (record { told = one-sum f k (a -ℤ x) (b -ℤ y) }) (lengths f a b xs ys ks))
 
-  pub total-end : length (commands xs ys ks) ≤ i → total f (drop i (commands xs ys ks)) ≡ 0
-  unfolding total
-  total-end l = rw (list-end (commands xs ys ks) i l)
-
--- ---- no command takes more than nine bytes
-
-most : (f : Format) (op : Op) → lenOf f op ≤ 9
-unfolding lenOf dstCmd dstBytes expCmd jefCmd pairOf
-most Pes op = omega arith
-most Pec op = omega arith
-most Dst Stitch = omega arith
-most Dst Jump = omega arith
-most Dst Trim = omega arith
-most Dst ColorChange = omega arith
-most Dst End = omega arith
-most Exp Stitch = omega arith
-most Exp Jump = omega arith
-most Exp Trim = omega arith
-most Exp ColorChange = omega arith
-most Exp End = omega arith
-most Jef Stitch = omega arith
-most Jef Jump = omega arith
-most Jef Trim = omega arith
-most Jef ColorChange = omega arith
-most Jef End = omega arith
-
-total-most : (f : Format) (cs : List Cmd) → total f cs ≤ 9 * length cs
-unfolding total
-total-most f [] = omega arith
-total-most f (c ∷ cs) = omega (arith, most f (opOf (c .kind)), total-most f cs)
+-- no command takes more than nine bytes
+most : (f : Format) {t n s c r : ℕ} → Told f t n s c r → s ≤ n → c ≤ n → r ≤ n → t ≤ 9 * n
+most Pes p u v w = omega arith
+most Pec p u v w = omega arith
+most Dst p u v w = omega arith
+most Exp p u v w = omega arith
+most Jef p u v w = omega arith
 
 pub stream-most : (f : Format) (xs ys : List ℤ) (ks : List ℕ) → length (written (cmdOf f) (pos 0) (pos 0) (commands xs ys ks)) ≤ 9 * length ks
 stream-most f xs ys ks =
-    let cs = commands xs ys ks in
-    omega (arith, total-is f (pos 0) (pos 0) cs, total-most f cs, length-commands xs ys ks)
+    let n = length (commands xs ys ks) in
+    let le : (lo hi : ℕ) → count (kindIn lo hi) (take n ks) ≤ n = λ lo hi. omega (arith, count-le (kindIn lo hi) (take n ks), length-take n ks, length-commands xs ys ks) in
+    omega (arith, most f (lengths f (pos 0) (pos 0) xs ys ks) (le 0 0) (le 1 3) (le 2 2), length-commands xs ys ks)
+
+-- ---- a format whose commands have no bytes here
+
+pub no-bytes : (f : Format) → ((op : Op) (dx dy : ℤ) → cmdOf f op dx dy ≡ []) → (x y : ℤ) (cs : List Cmd) → written (cmdOf f) x y cs ≡ []
+unfolding written
+no-bytes f h x y [] = refl
+no-bytes f h x y (c ∷ cs) = rw h (no-bytes f h (c .x) (c .y) cs)

@@ -1,4 +1,5 @@
 pub mod Digits
 pub mod Bytes
 pub mod Lengths
+pub mod Parts
 pub mod Stream

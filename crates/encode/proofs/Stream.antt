@@ -1,24 +1,26 @@
--- The loop that writes: the next command's bytes, and that its step is small. Assumes nothing.
+-- The loops that write: a turn's bytes, and that its steps are small. Assumes nothing.
 use Prim.Native.Nat.{ℕ, _+_, _^_, _≤_, _<_}
-use mathlib.Core.Path.{_≡_, refl, sym}
+use mathlib.Core.Path.{_≡_, refl, sym, ap, _∙_}
 use mathlib.Core.Bool.{Bool, true, false, not, _||_}
-use mathlib.Core.List.{List, [], _∷_, _++_}
+use mathlib.Core.List.{List, _++_, append-assoc}
 use native.Mathlib.Omega.{arith}
 use lib.IntN.{ℤ, pos, negℤ, natAbs, _-ℤ_}
 use lib.ListN.{length, drop, getD}
 use lib.Signed.{mag}
 use mir.Syntax.{w32}
-use mir.Val.{hbits, toZ, ofZ}
+use mir.Val.{SFits, hbits, toZ, ofZ}
+use mir.Facts.{toZ-ofZ}
 use Rattle.rules.specs.Vocabulary.{between}
 use Rattle.rules.specs.Lists.{opOf, commands, written, anyFrom, stepIn, leastStep, greatestStep}
-use Rattle.rules.specs.Refusals.{stepsPast}
-use Rattle.rules.specs.declared.Cmd.{Cmd}
+use Rattle.rules.specs.Refusals.{stepsPast, stepTooLong}
 use Rattle.rules.specs.declared.Format.{Format}
 use Rattle.rules.specs.declared.Format.the-variants.{Pes, Pec, Dst, Exp, Jef}
+use Rattle.rules.specs.declared.Op.the-variants.{Stitch}
 use Rattle.laws.specs.Tests.{and-left, and-right, or-no-left, or-no-right}
 use Rattle.laws.specs.Ints.{ints, ret, abs-le, between-true}
+use Rattle.laws.specs.Buffers.{Put, Writing, writing-start, writing-room, writing-more, writing-done}
 use Rattle.laws.specs.Listing.{commands-more, list-end}
-use Rattle.encode.specs.Cmds.{cmdOf, most, Step}
+use Rattle.encode.specs.Cmds.{cmdOf, most, Step, Ready, StepAt, bytesAt}
 
 -- ---- a step within a format's limits
 
@@ -51,52 +53,88 @@ most-at Dst = omega arith
 most-at Exp = omega arith
 most-at Jef = omega arith
 
--- ---- one more command, and the end
+-- a step as the code has it: the difference of two places, through their bits
+pub stepped : {r a b : ℤ} → mag r < 2 ^ hbits w32 → r ≡ toZ w32 (ofZ w32 a) -ℤ toZ w32 (ofZ w32 b) → SFits w32 a → SFits w32 b → toZ w32 (ofZ w32 r) ≡ a -ℤ b
+stepped {r} h e p q = ret w32 r h ∙ e ∙ rw (toZ-ofZ p, toZ-ofZ q)
 
--- an element as the code reads it: through its bits, which hold it
-abbrev pub readAt : List ℤ → ℕ → ℤ
-readAt xs i = toZ w32 (ofZ w32 (getD xs i (pos 0)))
+-- ---- what is left of a list, from the command at i on, after the place (x, y)
 
-abbrev pub Small : List ℤ → ℕ → Type 0
-Small xs i = mag (getD xs i (pos 0)) < 2 ^ hbits w32
+-- its bytes
+abbrev bytesFrom : Format → List ℤ → List ℤ → List ℕ → ℕ → ℤ → ℤ → List ℕ
+bytesFrom f xs ys ks i x y = written (cmdOf f) x y (drop i (commands xs ys ks))
 
--- the bytes of the command at i, and those of the commands after it
-abbrev pub bytesAt : Format → List ℤ → List ℤ → List ℕ → ℕ → ℤ → ℤ → List ℕ
-bytesAt f xs ys ks i x y = cmdOf f (opOf (getD ks i 0)) (readAt xs i -ℤ x) (readAt ys i -ℤ y)
+-- no step is too long
+pub record Near (f : Format) (xs ys : List ℤ) (ks : List ℕ) (i : ℕ) (x y : ℤ) : Type 0 where
+  pub near : anyFrom (stepsPast f) x y (drop i (commands xs ys ks)) ≡ false
 
-abbrev pub bytesAfter : Format → List ℤ → List ℤ → List ℕ → ℕ → List ℕ
-bytesAfter f xs ys ks i = written (cmdOf f) (readAt xs i) (readAt ys i) (drop (i + 1) (commands xs ys ks))
+-- A turn of a loop: its bytes vs, and then what is left from j on, after (x′, y′)
+pub record Turn (f : Format) (xs ys : List ℤ) (ks : List ℕ) (i : ℕ) (x y : ℤ) (vs : List ℕ) (j : ℕ) (x′ y′ : ℤ) : Type 0 where
+  pub bytes : bytesFrom f xs ys ks i x y ≡ vs ++ bytesFrom f xs ys ks j x′ y′
+  pub after : Near f xs ys ks j x′ y′
 
-module _ (f : Format) (xs ys : List ℤ) (ks : List ℕ) (i : ℕ) (x y : ℤ) where
-  abbrev cs : List Cmd
-  cs = commands xs ys ks
+-- one command
+module _ {f : Format} {xs ys : List ℤ} {ks : List ℕ} {i : ℕ} {x y : ℤ} (e : Near f xs ys ks i x y) (l : i < length (commands xs ys ks)) where
+  abbrev past : Bool
+  past = not (stepIn f (getD xs i (pos 0) -ℤ x) (getD ys i (pos 0) -ℤ y))
 
-  pub no-bytes : length cs ≤ i → written (cmdOf f) x y (drop i cs) ≡ []
+  abbrev later : Bool
+  later = anyFrom (stepsPast f) (getD xs i (pos 0)) (getD ys i (pos 0)) (drop (i + 1) (commands xs ys ks))
+
+  neither : past || later ≡ false
+  unfolding anyFrom stepsPast
+  neither = rw (commands-more xs ys ks i l) at (e .near)
+
+  pub one-step : StepAt f xs ys i x y
+  one-step = small f _ _ (un-not _ (or-no-left past later neither))
+
+  pub one-turn : Turn f xs ys ks i x y (bytesAt f xs ys ks i x y) (i + 1) (getD xs i (pos 0)) (getD ys i (pos 0))
   unfolding written
-  no-bytes l = rw (list-end cs i l)
+  one-turn = record { bytes = rw (commands-more xs ys ks i l); after = record { near = or-no-right past later neither } }
 
-  module _ (l : i < length cs) (p : Small xs i) (q : Small ys i) where
-    one-more : drop i cs ≡ record { x = readAt xs i; y = readAt ys i; kind = getD ks i 0 } ∷ drop (i + 1) cs
-    one-more = rw (ret w32 (getD xs i (pos 0)) p, ret w32 (getD ys i (pos 0)) q) (commands-more xs ys ks i l)
+-- two turns are one
+two-turns : {f : Format} {xs ys : List ℤ} {ks : List ℕ} {i j k : ℕ} {x y x′ y′ x″ y″ : ℤ} {vs ws : List ℕ}
+    → Turn f xs ys ks i x y vs j x′ y′ → Turn f xs ys ks j x′ y′ ws k x″ y″ → Turn f xs ys ks i x y (vs ++ ws) k x″ y″
+two-turns {vs = vs} p q = record { bytes = p .bytes ∙ ap (λ l. vs ++ l) (q .bytes) ∙ sym (append-assoc vs _ _); after = q .after }
 
-    pub next-bytes : written (cmdOf f) x y (drop i cs) ≡ bytesAt f xs ys ks i x y ++ bytesAfter f xs ys ks i
-    unfolding written
-    next-bytes = rw one-more
+-- two commands, which are stitches
+module _ {f : Format} {xs ys : List ℤ} {ks : List ℕ} {i : ℕ} {x y : ℤ} (e : Near f xs ys ks i x y) (l : i + 1 < length (commands xs ys ks)) where
+  first : Turn f xs ys ks i x y (bytesAt f xs ys ks i x y) (i + 1) (getD xs i (pos 0)) (getD ys i (pos 0))
+  first = one-turn e (omega arith)
 
-    -- no step is too long: not this one, and none later
-    module _ (e : anyFrom (stepsPast f) x y (drop i cs) ≡ false) where
-      abbrev past : Bool
-      past = not (stepIn f (readAt xs i -ℤ x) (readAt ys i -ℤ y))
+  pub next-step : StepAt f xs ys (i + 1) (getD xs i (pos 0)) (getD ys i (pos 0))
+  next-step = one-step (first .after) l
 
-      abbrev later : Bool
-      later = anyFrom (stepsPast f) (readAt xs i) (readAt ys i) (drop (i + 1) cs)
+  pub two-stitches : getD ks i 0 + getD ks (i + 1) 0 ≡ 0
+      → (let nx = getD xs i (pos 0) in
+      let ny = getD ys i (pos 0) in
+      let mx = getD xs (i + 1) (pos 0) in
+      let my = getD ys (i + 1) (pos 0) in
+      Turn f xs ys ks i x y (cmdOf f Stitch (nx -ℤ x) (ny -ℤ y) ++ cmdOf f Stitch (mx -ℤ nx) (my -ℤ ny)) (i + 1 + 1) mx my)
+  unfolding opOf
+  two-stitches z =
+      let p : getD ks i 0 ≡ 0 = omega arith in
+      let q : getD ks (i + 1) 0 ≡ 0 = omega arith in
+      rw (p, q) at (two-turns first (one-turn (first .after) l))
 
-      neither : past || later ≡ false
-      unfolding anyFrom stepsPast
-      neither = rw one-more at e
+-- ---- the invariant of a loop
 
-      pub next-step : Step f (readAt xs i -ℤ x) (readAt ys i -ℤ y)
-      next-step = small f _ _ (un-not _ (or-no-left past later neither))
+-- d₀ is the buffer at first, and d the buffer now, written from `base` as far as n
+pub record Going (f : Format) (xs ys : List ℤ) (ks : List ℕ) (d₀ : List ℕ) (base : ℕ) (d : List ℕ) (n i : ℕ) (x y : ℤ) : Type 0 where
+  pub writing : Writing d₀ base (written (cmdOf f) (pos 0) (pos 0) (commands xs ys ks)) d n (bytesFrom f xs ys ks i x y)
+  pub steps : Near f xs ys ks i x y
 
-      pub next-near : later ≡ false
-      next-near = or-no-right past later neither
+pub going-start : (f : Format) (xs ys : List ℤ) (ks : List ℕ) (d : List ℕ) (base : ℕ) → Ready f xs ys ks d base → Going f xs ys ks d base d base 0 (pos 0) (pos 0)
+unfolding stepTooLong
+going-start f xs ys ks d base r = record { writing = writing-start d base _ (r .1); steps = record { near = r .0 } }
+
+module _ {f : Format} {xs ys : List ℤ} {ks : List ℕ} {d₀ d : List ℕ} {base n i : ℕ} {x y : ℤ} (g : Going f xs ys ks d₀ base d n i x y) where
+  module _ {vs : List ℕ} {j : ℕ} {x′ y′ : ℤ} (t : Turn f xs ys ks i x y vs j x′ y′) where
+    pub going-room : n + length vs ≤ length d
+    going-room = writing-room vs (bytesFrom f xs ys ks j x′ y′) (g .writing) (t .bytes)
+
+    pub going-on : {d′ : List ℕ} {m : ℕ} → Put d d′ n m vs → Going f xs ys ks d₀ base d′ m j x′ y′
+    going-on p = record { writing = writing-more (g .writing) (t .bytes) p; steps = t .after }
+
+  pub going-done : length (commands xs ys ks) ≤ i → Put d₀ d base n (written (cmdOf f) (pos 0) (pos 0) (commands xs ys ks))
+  unfolding written
+  going-done l = writing-done (g .writing) (rw (list-end (commands xs ys ks) i l))

@@ -2,25 +2,21 @@
 pub mod pairs;
 pub mod triples;
 
-use crate::pairs::exp_cmd;
-use crate::pairs::exp_len;
-use crate::pairs::jef_cmd;
-use crate::pairs::jef_len;
-use crate::triples::dst_cmd;
-use crate::triples::dst_len;
+use crate::pairs::put_pairs;
+use crate::triples::put_triples;
 use formats::list_len;
-use formats::op_of;
 use rules::Format;
-use rules::Op;
 ghost use mathlib.Core.Path.{_≡_};
 ghost use mathlib.Core.Bool.{false};
 ghost use Prim.Native.Nat.{_+_, _≤_};
+ghost use lib.Dec.{eqb};
 ghost use lib.IntN.{pos, natAbs, _-ℤ_};
-ghost use lib.ListN.{length};
+ghost use lib.ListN.{length, take};
+ghost use Rattle.rules.specs.Vocabulary.{pick, count};
 ghost use Rattle.rules.specs.Lists.{commands, written};
 ghost use Rattle.rules.specs.Refusals.{stepTooLong};
 ghost use Rattle.laws.specs.Buffers.{Put};
-ghost use Rattle.encode.specs.Cmds.{cmdOf, lenOf, Step};
+ghost use Rattle.encode.specs.Cmds.{cmdOf, kindIn};
 
 // A step on one axis, between two places that are near each other.
 fn step(from: i32, to: i32) -> i32
@@ -30,44 +26,49 @@ fn step(from: i32, to: i32) -> i32
     to - from
 }
 
-// The bytes that a command takes. PES and PEC are not written here.
-fn cmd_len(f: Format, op: Op) -> usize
-    ensures { λ r. ⌜ (r ≡ lenOf f op) × (r ≤ 9) ⌝ }
+// Whether two kinds are both 0, a stitch, by one test.
+fn are_stitches(a: u8, b: u8) -> bool
+    ensures { λ r. ⌜ r ≡ eqb (a + b) 0 ⌝ }
 {
-    match f {
-        Format::Pes | Format::Pec => 0,
-        Format::Dst => dst_len(op),
-        Format::Exp => exp_len(op),
-        Format::Jef => jef_len(op),
-    }
+    (a as u16) + (b as u16) == 0
 }
 
-fn put_cmd(f: Format, op: Op, dx: i32, dy: i32, out: &mut [u8], at: usize) -> usize
-    requires { ⌜ Step f dx dy ⌝ }
-    requires { ⌜ at + length (cmdOf f op dx dy) ≤ length (now out) ⌝ }
-    ensures { λ r. ⌜ Put (now (out .entry)) (now (out .exit)) at r (cmdOf f op dx dy) ⌝ }
+// 1 for a kind from lo to hi, and 0 for any other.
+fn is_in(lo: u8, hi: u8, kind: u8) -> u16
+    ensures { λ r. ⌜ r ≡ pick (kindIn lo hi kind) 1 0 ⌝ }
 {
-    match f {
-        Format::Pes | Format::Pec => at,
-        Format::Dst => dst_cmd(op, dx, dy, out, at),
-        Format::Exp => exp_cmd(op, dx, dy, out, at),
-        Format::Jef => jef_cmd(op, dx, dy, out, at),
+    if kind < lo {
+        return 0;
     }
+    (kind <= hi) as u16
 }
 
-// The bytes that all commands take.
+// How many of the first n kinds are from lo to hi.
+fn kinds_in(lo: u8, hi: u8, kinds: &[u8], n: usize) -> usize
+    requires { ⌜ (n ≤ length (now kinds)) × (n ≤ 65535) ⌝ }
+    ensures { λ r. ⌜ (r ≡ count (kindIn lo hi) (take n (now (kinds .entry)))) × (r ≤ n) ⌝ }
+{
+    let mut found: u16 = 0;
+    let mut i = 0;
+    while i < n {
+        found += is_in(lo, hi, kinds[i]);
+        i += 1;
+    }
+    found as usize
+}
+
+// The bytes that all commands take. Kind 0 is a stitch, 2 a trim, and 1 to 3 are the kinds that are neither stitch nor end.
 pub fn stream_len(f: Format, xs: &[i32], ys: &[i32], kinds: &[u8]) -> usize
     requires { ⌜ length (now kinds) ≤ 65535 ⌝ }
     ensures { λ r. ⌜ r ≡ length (written (cmdOf f) (pos 0) (pos 0) (commands (now (xs .entry)) (now (ys .entry)) (now (kinds .entry)))) ⌝ }
 {
     let n = list_len(xs, ys, kinds);
-    let mut total = 0;
-    let mut i = 0;
-    while i < n {
-        total += cmd_len(f, op_of(kinds[i]));
-        i += 1;
+    match f {
+        Format::Pes | Format::Pec => 0,
+        Format::Dst => 3 * n + 6 * kinds_in(2, 2, kinds, n),
+        Format::Exp => 2 * kinds_in(0, 0, kinds, n) + 4 * kinds_in(1, 3, kinds, n),
+        Format::Jef => 2 * n + 2 * kinds_in(1, 3, kinds, n) - 4 * kinds_in(2, 2, kinds, n),
     }
-    total
 }
 
 // The bytes of all commands, from `at` on.
@@ -83,18 +84,10 @@ pub fn put_stream(
     requires { ⌜ at + length (written (cmdOf f) (pos 0) (pos 0) (commands (now xs) (now ys) (now kinds))) ≤ length (now out) ⌝ }
     ensures { λ r. ⌜ Put (now (out .entry)) (now (out .exit)) at r (written (cmdOf f) (pos 0) (pos 0) (commands (now (xs .entry)) (now (ys .entry)) (now (kinds .entry)))) ⌝ }
 {
-    let n = list_len(xs, ys, kinds);
-    let mut x: i32 = 0;
-    let mut y: i32 = 0;
-    let mut to = at;
-    let mut i = 0;
-    while i < n {
-        let nx = xs[i];
-        let ny = ys[i];
-        to = put_cmd(f, op_of(kinds[i]), step(x, nx), step(y, ny), out, to);
-        x = nx;
-        y = ny;
-        i += 1;
+    match f {
+        Format::Pes | Format::Pec => at,
+        Format::Dst => put_triples(xs, ys, kinds, out, at),
+        Format::Exp => put_pairs(false, xs, ys, kinds, out, at),
+        Format::Jef => put_pairs(true, xs, ys, kinds, out, at),
     }
-    to
 }

@@ -1,30 +1,37 @@
 // DST: signed digits of weight 81, 27, 9, 3, 1 on each axis.
+use crate::are_stitches;
+use crate::step;
 use emit::put3;
+use formats::list_len;
+use formats::op_of;
 use rules::Op;
 ghost use mathlib.Core.Path.{_≡_};
+ghost use mathlib.Core.List.{_++_};
 ghost use Prim.Native.Nat.{_+_, _/_, _%_, _≤_, _<_};
 ghost use lib.IntN.{pos, natAbs, negℤ, _+ℤ_, _-ℤ_};
 ghost use lib.ListN.{length};
+ghost use Rattle.rules.specs.Vocabulary.{little, fromLittle};
+ghost use Rattle.rules.specs.Lists.{commands, written};
 ghost use Rattle.rules.specs.Dst.{pair, dstBytes, dstCmd};
 ghost use Rattle.rules.specs.declared.Format.the-variants.{Dst};
-ghost use Rattle.rules.specs.declared.Op.the-variants.{Trim};
+ghost use Rattle.rules.specs.declared.Op.the-variants.{Stitch, Trim};
 ghost use Rattle.laws.specs.Buffers.{Put};
-ghost use Rattle.encode.specs.Cmds.{trit, lenOf, Step};
+ghost use Rattle.encode.specs.Cmds.{Step, Ready, StepAt, bytesAt, trit, partOf, Parts, Tables};
 
 // A step raised by 121, so that its digits count from 0.
-fn raised(z: i32) -> u8
+fn raised(z: i32) -> usize
     requires { ⌜ natAbs z ≤ 121 ⌝ }
     ensures { λ r. ⌜ pos r ≡ z +ℤ pos 121 ⌝ }
 {
-    (z + 121) as u8
+    (z + 121) as usize
 }
 
 // The same of a step's negative.
-fn lowered(z: i32) -> u8
+fn lowered(z: i32) -> usize
     requires { ⌜ natAbs z ≤ 121 ⌝ }
     ensures { λ r. ⌜ pos r ≡ pos 121 -ℤ z ⌝ }
 {
-    (121 - z) as u8
+    (121 - z) as usize
 }
 
 // The bit of one digit of a raised step: that of its sign, or none.
@@ -41,8 +48,8 @@ pub fn encode_record(kind: u8, dx: i32, dy: i32) -> [u8; 3]
     requires { ⌜ (kind ≤ 131) × ((natAbs dx ≤ 121) × (natAbs dy ≤ 121)) ⌝ }
     ensures { λ r. ⌜ r ≡ dstBytes kind dx (negℤ dy) ⌝ }
 {
-    let x = raised(dx);
-    let y = lowered(dy);
+    let x = raised(dx) as u8;
+    let y = lowered(dy) as u8;
     [
         bits(x, 1, 0x01, 0x02)
             + bits(x, 9, 0x04, 0x08)
@@ -75,25 +82,188 @@ fn put_trim(out: &mut [u8], at: usize) -> usize
     put_record(0x83, 2, 2, out, third)
 }
 
-pub fn dst_len(op: Op) -> usize
-    ensures { λ r. ⌜ (r ≡ lenOf Dst op) × (r ≤ 9) ⌝ }
+// The bits of a step in one number, the low byte first.
+fn packed(dx: i32, dy: i32) -> u32
+    requires { ⌜ (natAbs dx ≤ 121) × (natAbs dy ≤ 121) ⌝ }
+    ensures { λ r. ⌜ r ≡ fromLittle (dstBytes 0 dx (negℤ dy)) ⌝ }
 {
-    match op {
-        Op::Trim => 9,
-        Op::Stitch | Op::Jump | Op::ColorChange | Op::End => 3,
-    }
+    let r = encode_record(0, dx, dy);
+    (r[0] as u32) + 256 * (r[1] as u32) + 65536 * (r[2] as u32)
 }
 
-pub fn dst_cmd(op: Op, dx: i32, dy: i32, out: &mut [u8], at: usize) -> usize
+// The bits of the step t - 121 along x, or else of 121 - t along y.
+fn part(wide: bool, t: usize) -> u32
+    requires { ⌜ t < 243 ⌝ }
+    ensures { λ r. ⌜ r ≡ partOf wide t ⌝ }
+{
+    let n = t as i32;
+    if wide {
+        return packed(n - 121, 0);
+    }
+    packed(0, 121 - n)
+}
+
+// The bits of all steps along x, or else along y.
+fn table(wide: bool) -> [u32; 243]
+    ensures { λ r. ⌜ Parts wide r ⌝ }
+{
+    let mut parts = [0u32; 243];
+    let mut t = 0;
+    while t < 243 {
+        parts[t] = part(wide, t);
+        t += 1;
+    }
+    parts
+}
+
+// A number in three bytes, the low byte first; what is past them is lost.
+fn put_three(out: &mut [u8], at: usize, v: u32) -> usize
+    requires { ⌜ at + 3 ≤ length (now out) ⌝ }
+    ensures { λ r. ⌜ Put (now (out .entry)) (now (out .exit)) at r (little 3 v) ⌝ }
+{
+    let high = v / 256;
+    let top = high / 256;
+    put3(
+        out,
+        at,
+        (v % 256) as u8,
+        (high % 256) as u8,
+        (top % 256) as u8,
+    )
+}
+
+// A record put together from its parts.
+fn put_move(
+    kind: u32,
+    dx: i32,
+    dy: i32,
+    wide: &[u32],
+    high: &[u32],
+    out: &mut [u8],
+    at: usize,
+) -> usize
+    requires { ⌜ (kind ≤ 131) × Step Dst dx dy ⌝ }
+    requires { ⌜ Tables (now wide) (now high) ⌝ }
+    requires { ⌜ at + 3 ≤ length (now out) ⌝ }
+    ensures { λ r. ⌜ Put (now (out .entry)) (now (out .exit)) at r (dstBytes kind dx (negℤ dy)) ⌝ }
+{
+    let v = 65536 * kind + wide[raised(dx)] + high[lowered(dy)];
+    put_three(out, at, v)
+}
+
+fn dst_cmd(op: Op, dx: i32, dy: i32, wide: &[u32], high: &[u32], out: &mut [u8], at: usize) -> usize
     requires { ⌜ Step Dst dx dy ⌝ }
+    requires { ⌜ Tables (now wide) (now high) ⌝ }
     requires { ⌜ at + length (dstCmd op dx dy) ≤ length (now out) ⌝ }
     ensures { λ r. ⌜ Put (now (out .entry)) (now (out .exit)) at r (dstCmd op dx dy) ⌝ }
 {
     match op {
-        Op::Stitch => put_record(0x03, dx, dy, out, at),
-        Op::Jump => put_record(0x83, dx, dy, out, at),
+        Op::Stitch => put_move(0x03, dx, dy, wide, high, out, at),
+        Op::Jump => put_move(0x83, dx, dy, wide, high, out, at),
         Op::Trim => put_trim(out, at),
         Op::ColorChange => put3(out, at, 0x00, 0x00, 0xC3),
         Op::End => put3(out, at, 0x00, 0x00, 0xF3),
     }
+}
+
+// Two stitches, from (x, y) to (nx, ny) and on to (mx, my).
+fn put_two(
+    x: i32,
+    y: i32,
+    nx: i32,
+    ny: i32,
+    mx: i32,
+    my: i32,
+    wide: &[u32],
+    high: &[u32],
+    out: &mut [u8],
+    at: usize,
+) -> usize
+    requires { ⌜ Step Dst (nx -ℤ x) (ny -ℤ y) ⌝ }
+    requires { ⌜ Step Dst (mx -ℤ nx) (my -ℤ ny) ⌝ }
+    requires { ⌜ Tables (now wide) (now high) ⌝ }
+    requires { ⌜ at + 6 ≤ length (now out) ⌝ }
+    ensures { λ r. ⌜ Put (now (out .entry)) (now (out .exit)) at r (dstCmd Stitch (nx -ℤ x) (ny -ℤ y) ++ dstCmd Stitch (mx -ℤ nx) (my -ℤ ny)) ⌝ }
+{
+    let second = put_move(0x03, step(x, nx), step(y, ny), wide, high, out, at);
+    put_move(0x03, step(nx, mx), step(ny, my), wide, high, out, second)
+}
+
+// The command at i, after the place (x, y).
+fn put_at(
+    xs: &[i32],
+    ys: &[i32],
+    kinds: &[u8],
+    i: usize,
+    x: i32,
+    y: i32,
+    wide: &[u32],
+    high: &[u32],
+    out: &mut [u8],
+    at: usize,
+) -> usize
+    requires { ⌜ (i < length (commands (now xs) (now ys) (now kinds))) × StepAt Dst (now xs) (now ys) i x y ⌝ }
+    requires { ⌜ Tables (now wide) (now high) ⌝ }
+    requires { ⌜ at + length (bytesAt Dst (now xs) (now ys) (now kinds) i x y) ≤ length (now out) ⌝ }
+    ensures { λ r. ⌜ Put (now (out .entry)) (now (out .exit)) at r (bytesAt Dst (now (xs .entry)) (now (ys .entry)) (now (kinds .entry)) i x y) ⌝ }
+{
+    dst_cmd(
+        op_of(kinds[i]),
+        step(x, xs[i]),
+        step(y, ys[i]),
+        wide,
+        high,
+        out,
+        at,
+    )
+}
+
+// All commands: two stitches in a row at once, any other command by itself.
+fn put_records(
+    xs: &[i32],
+    ys: &[i32],
+    kinds: &[u8],
+    wide: &[u32],
+    high: &[u32],
+    out: &mut [u8],
+    at: usize,
+) -> usize
+    requires { ⌜ Ready Dst (now xs) (now ys) (now kinds) (now out) at ⌝ }
+    requires { ⌜ Tables (now wide) (now high) ⌝ }
+    ensures { λ r. ⌜ Put (now (out .entry)) (now (out .exit)) at r (written dstCmd (pos 0) (pos 0) (commands (now (xs .entry)) (now (ys .entry)) (now (kinds .entry)))) ⌝ }
+{
+    let n = list_len(xs, ys, kinds);
+    let mut x: i32 = 0;
+    let mut y: i32 = 0;
+    let mut to = at;
+    let mut i = 0;
+    while i + 1 < n {
+        let j = i + 1;
+        if are_stitches(kinds[i], kinds[j]) {
+            let mx = xs[j];
+            let my = ys[j];
+            to = put_two(x, y, xs[i], ys[i], mx, my, wide, high, out, to);
+            x = mx;
+            y = my;
+            i = j + 1;
+            continue;
+        }
+        to = put_at(xs, ys, kinds, i, x, y, wide, high, out, to);
+        x = xs[i];
+        y = ys[i];
+        i = j;
+    }
+    if i < n {
+        return put_at(xs, ys, kinds, i, x, y, wide, high, out, to);
+    }
+    to
+}
+
+pub fn put_triples(xs: &[i32], ys: &[i32], kinds: &[u8], out: &mut [u8], at: usize) -> usize
+    requires { ⌜ Ready Dst (now xs) (now ys) (now kinds) (now out) at ⌝ }
+    ensures { λ r. ⌜ Put (now (out .entry)) (now (out .exit)) at r (written dstCmd (pos 0) (pos 0) (commands (now (xs .entry)) (now (ys .entry)) (now (kinds .entry)))) ⌝ }
+{
+    let wide = table(true);
+    let high = table(false);
+    put_records(xs, ys, kinds, &wide, &high, out, at)
 }

@@ -11,7 +11,7 @@ use lib.ListN.{length, getD, drop, drop-of-length-le}
 use lib.Seq.{drop-cons}
 use lib.IntN.{ℤ, pos}
 use Rattle.rules.specs.Vocabulary.{pick, any, count}
-use Rattle.rules.specs.Lists.{commands, anyFrom}
+use Rattle.rules.specs.Lists.{commands}
 use Rattle.rules.specs.declared.Cmd.{Cmd}
 use Rattle.laws.specs.Tests.{by-test}
 
@@ -37,20 +37,6 @@ module _ {A : Type 0} (p : A → Bool) (s : List A) (d : A) (i : ℕ) {whole : B
   pub any-end : length s ≤ i → false ≡ whole
   unfolding any
   any-end h = sym (w ∙ rw (list-end s i h))
-
--- the same where the test is told the place before
-module _ (p : ℤ → ℤ → Cmd → Bool) (s : List Cmd) (d : Cmd) (i : ℕ) (x y : ℤ) {whole : Bool} (w : whole ≡ anyFrom p x y (drop i s)) where
-  pub from-hit : i < length s → p x y (getD s i d) ≡ true → true ≡ whole
-  unfolding anyFrom
-  from-hit h e = sym (w ∙ rw (list-more s d i h, e))
-
-  pub from-miss : i < length s → p x y (getD s i d) ≡ false → whole ≡ anyFrom p (getD s i d .x) (getD s i d .y) (drop (i + 1) s)
-  unfolding anyFrom
-  from-miss h e = w ∙ rw (list-more s d i h, e)
-
-  pub from-end : length s ≤ i → false ≡ whole
-  unfolding anyFrom
-  from-end h = sym (w ∙ rw (list-end s i h))
 
 -- a loop that counts: n so far
 module _ {A : Type 0} (p : A → Bool) (s : List A) (d : A) (i n : ℕ) {whole : ℕ} (w : whole ≡ n + count p (drop i s)) where

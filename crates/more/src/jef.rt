@@ -1,5 +1,6 @@
 // JEF: header, two tables of threads, the commands' bytes.
-use crate::jef_choice;
+use crate::choice_in;
+use crate::jef_threads;
 use checks::check_list;
 use emit::put_text;
 use emit::put_times;
@@ -127,12 +128,13 @@ fn put_entries(threads: &[u8], out: &mut [u8], at: usize) -> usize
     requires { ⌜ at + length (words (jefEntries First (threadsOf (now threads)))) ≤ length (now out) ⌝ }
     ensures { λ r. ⌜ Put (now (out .entry)) (now (out .exit)) at r (words (jefEntries First (threadsOf (now (threads .entry))))) ⌝ }
 {
+    let chart = jef_threads();
     let mut last = Previous::First;
     let mut to = at;
     let mut i = 0;
     while i + 3 <= threads.len() {
         let t = Color(threads[i], threads[i + 1], threads[i + 2]);
-        let e = jef_choice(last, t);
+        let e = choice_in(chart, last, t);
         last = Previous::Entry(e, t);
         to = put_word(out, to, e as u32);
         i += 3;

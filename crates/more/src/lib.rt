@@ -9,7 +9,7 @@ use rules::Previous;
 use rules::Slot;
 ghost use mathlib.Core.Path.{_≡_};
 ghost use lib.ListN.{set};
-ghost use Rattle.rules.specs.Choices.{nearestFirst, jefPalette, entryOf, jefNearest, jefChoice};
+ghost use Rattle.rules.specs.Choices.{nearestFirst, jefPalette, entryOf, jefChoice};
 ghost use Rattle.rules.specs.declared.Slot.the-variants.{Empty};
 
 // The entries of the chart that may be chosen.
@@ -62,19 +62,20 @@ fn entry_of(f: Found) -> usize
     }
 }
 
-// The nearest entry but one; entry 0, which is never chosen, leaves out none.
-fn jef_nearest(t: Color, skip: usize) -> usize
-    ensures { λ r. ⌜ r ≡ jefNearest t skip ⌝ }
+// The nearest entry but one.
+fn nearest_but(chart: [Slot; 79], t: Color, skip: usize) -> usize
+    ensures { λ r. ⌜ r ≡ entryOf (nearestFirst t (set chart skip Empty)) ⌝ }
 {
-    let palette = without(jef_threads(), skip);
+    let palette = without(chart, skip);
     entry_of(nearest_first(t, palette))
 }
 
-// The entry for a thread: the nearest, but never that of a neighbour of another colour.
-pub fn jef_choice(last: Previous, t: Color) -> usize
+// The entry for a thread, with the chart at hand: the nearest, but never that of a neighbour of another colour.
+pub fn choice_in(chart: [Slot; 79], last: Previous, t: Color) -> usize
+    requires { ⌜ chart ≡ jefPalette ⌝ }
     ensures { λ r. ⌜ r ≡ jefChoice last t ⌝ }
 {
-    let nearest = jef_nearest(t, 0);
+    let nearest = entry_of(nearest_first(t, chart));
     let Previous::Entry(i, u) = last else {
         return nearest;
     };
@@ -84,5 +85,11 @@ pub fn jef_choice(last: Previous, t: Color) -> usize
     if formats::same_color(u, t) {
         return nearest;
     }
-    jef_nearest(t, i)
+    nearest_but(chart, t, i)
+}
+
+pub fn jef_choice(last: Previous, t: Color) -> usize
+    ensures { λ r. ⌜ r ≡ jefChoice last t ⌝ }
+{
+    choice_in(jef_threads(), last, t)
 }

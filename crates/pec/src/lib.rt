@@ -7,8 +7,10 @@ use formats::op_of;
 use rules::Op;
 ghost use mathlib.Core.Path.{_≡_};
 ghost use mathlib.Core.Bool.{false, not, _&&_};
+ghost use mathlib.Core.List.{_++_};
 ghost use Prim.Native.Nat.{_+_, _<_, _≤_};
 ghost use lib.IntN.{pos, natAbs, negℤ, _-ℤ_};
+ghost use lib.Dec.{eqb};
 ghost use lib.ListN.{length};
 ghost use Rattle.rules.specs.Vocabulary.{pick, between, bitsOf, eqZ};
 ghost use Rattle.rules.specs.Lists.{commands};
@@ -78,14 +80,14 @@ fn low7(z: i32) -> u8
     requires { ⌜ natAbs z ≤ 63 ⌝ }
     ensures { λ r. ⌜ r ≡ bitsOf 6 z ⌝ }
 {
-    ((z + 128) % 128) as u8
+    (((z + 128) as u32) % 128) as u8
 }
 
 fn low12(z: i32) -> u32
     requires { ⌜ natAbs z ≤ 2048 ⌝ }
     ensures { λ r. ⌜ (r ≡ bitsOf 11 z) × (r < 4096) ⌝ }
 {
-    ((z + 4096) % 4096) as u32
+    ((z + 4096) as u32) % 4096
 }
 
 // A step in two bytes, with a flag in the first.
@@ -107,6 +109,13 @@ fn value_len(z: i32) -> usize
     2
 }
 
+// The bytes that the two steps of a stitch take.
+fn steps_len(dx: i32, dy: i32) -> usize
+    ensures { λ r. ⌜ (r ≡ length (pecValue dx ++ pecValue dy)) × (r ≤ 4) ⌝ }
+{
+    value_len(dx) + value_len(dy)
+}
+
 // A step of a stitch.
 fn pec_value(z: i32, out: &mut [u8], at: usize) -> usize
     requires { ⌜ natAbs z ≤ 2048 ⌝ }
@@ -117,6 +126,19 @@ fn pec_value(z: i32, out: &mut [u8], at: usize) -> usize
         return put(out, at, low7(z));
     }
     put_wide(0x80, z, out, at)
+}
+
+// The two steps of a stitch.
+fn put_steps(dx: i32, dy: i32, out: &mut [u8], at: usize) -> usize
+    requires { ⌜ Step dx dy ⌝ }
+    requires { ⌜ at + length (pecValue dx ++ pecValue dy) ≤ length (now out) ⌝ }
+    ensures { λ r. ⌜ Put (now (out .entry)) (now (out .exit)) at r (pecValue dx ++ pecValue dy) ⌝ }
+{
+    if steps_len(dx, dy) == 2 {
+        return put2(out, at, low7(dx), low7(dy));
+    }
+    let y = pec_value(dx, out, at);
+    pec_value(dy, out, y)
 }
 
 // Whether a stitch 00 00 goes before a stitch that moves on both axes.
@@ -233,6 +255,16 @@ fn step(from: i32, to: i32) -> i32
     to - from
 }
 
+// A stitch that follows a stitch or a colour change: no stitch 00 00 goes before it.
+fn is_going(kind: u8, jumped: bool) -> bool
+    ensures { λ r. ⌜ r ≡ (not jumped && eqb kind 0) ⌝ }
+{
+    if jumped {
+        return false;
+    }
+    kind == 0
+}
+
 // The bytes that all commands take.
 pub fn pec_len(xs: &[i32], ys: &[i32], kinds: &[u8]) -> usize
     requires { ⌜ (length (now kinds) ≤ 65535) × (stepTooLong Pec (commands (now xs) (now ys) (now kinds)) ≡ false) ⌝ }
@@ -245,14 +277,21 @@ pub fn pec_len(xs: &[i32], ys: &[i32], kinds: &[u8]) -> usize
     let mut total = 0;
     let mut i = 0;
     while i < n {
-        let op = op_of(kinds[i]);
+        let kind = kinds[i];
         let nx = xs[i];
         let ny = ys[i];
-        total += cmd_len(s, op, step(x, nx), step(y, ny));
-        s = next(s, op);
+        let dx = step(x, nx);
+        let dy = step(y, ny);
         x = nx;
         y = ny;
         i += 1;
+        if is_going(kind, s.jumped) {
+            total += steps_len(dx, dy);
+            continue;
+        }
+        let op = op_of(kind);
+        total += cmd_len(s, op, dx, dy);
+        s = next(s, op);
     }
     total
 }
@@ -270,14 +309,21 @@ pub fn pec_encode(xs: &[i32], ys: &[i32], kinds: &[u8], out: &mut [u8], at: usiz
     let mut to = at;
     let mut i = 0;
     while i < n {
-        let op = op_of(kinds[i]);
+        let kind = kinds[i];
         let nx = xs[i];
         let ny = ys[i];
-        to = put_cmd(s, op, step(x, nx), step(y, ny), out, to);
-        s = next(s, op);
+        let dx = step(x, nx);
+        let dy = step(y, ny);
         x = nx;
         y = ny;
         i += 1;
+        if is_going(kind, s.jumped) {
+            to = put_steps(dx, dy, out, to);
+            continue;
+        }
+        let op = op_of(kind);
+        to = put_cmd(s, op, dx, dy, out, to);
+        s = next(s, op);
     }
     to
 }

@@ -1,11 +1,12 @@
 -- The loops over the list: the sections, their count and the colour log by one command more, and at the end. Assumes nothing.
 use Prim.Native.Nat.{ℕ, _+_, _*_, _≤_, _<_}
-use mathlib.Core.Path.{_≡_, refl, sym, ap, _∙_}
+use mathlib.Core.Path.{_≡_, refl, sym, ap, _∙_, subst}
 use mathlib.Core.Bool.{Bool, true, false, not, _&&_}
 use mathlib.Core.List.{List, [], _∷_, _++_}
 use native.Mathlib.Omega.{arith}
+use borrow.Author.Tests.{eqb-true, not-false}
 use lib.Dec.{eqb}
-use lib.IntN.{ℤ}
+use lib.IntN.{ℤ, pos}
 use lib.ListN.{length, drop, getD, length-append}
 use Rattle.rules.specs.Vocabulary.{pick, little, joined}
 use Rattle.rules.specs.Lists.{opOf, commands}
@@ -16,7 +17,7 @@ use Rattle.rules.specs.declared.Op.{Op}
 use Rattle.rules.specs.declared.Op.the-variants.{Stitch, Jump, Trim, ColorChange, End}
 use Rattle.laws.specs.Tests.{by-test}
 use Rattle.laws.specs.Listing.{cmdAt, commands-more, list-end}
-use Rattle.sections.specs.States.{openLen, cmdLen, logs, measures}
+use Rattle.sections.specs.States.{movedTo, openLen, cmdLen, logs, measures}
 use Rattle.laws.specs.Lengths.{length-point}
 use Rattle.sections.proofs.Lengths.{gap, open-long, stitch-long, jump-long}
 use Rattle.sections.proofs.Shorts.{shorts-append}
@@ -157,6 +158,61 @@ module _ (xs ys : List ℤ) (ks : List ℕ) (i : ℕ) (s : PesState) where
       few-threads = omega (arith, next-thread ts s newAt (opOf (getD ks i 0)) (cmdAt xs ys ks i));
       few-sections = omega (arith, next-sections ts s newAt (opOf (getD ks i 0)) (cmdAt xs ys ks i));
     }
+
+    -- a stitch of an open section: four bytes, no entry of the log, another place
+    module _ (old : newAt ≡ false) (stitch : getD ks i 0 ≡ 0) where
+      pub on-op : opOf (getD ks i 0) ≡ Stitch
+      unfolding opOf
+      on-op = rw stitch
+
+      pub on-state : stateAfter ≡ movedTo s (getD xs i (pos 0)) (getD ys i (pos 0))
+      unfolding pesNext
+      on-state =
+          let kept : getD ks i 0 ≡ s .before = eqb-true _ _ (not-false _ old) in
+          let none : s .sections + 0 ≡ s .sections = omega arith in
+          rw (old, on-op, kept, none)
+
+      on-long : cmdLen (s .sections) newAt (opOf (getD ks i 0)) ≡ 4
+      unfolding cmdLen
+      on-long = rw (old, on-op)
+
+      on-log : (last : ℕ) → logsAt last ≡ false
+      unfolding logs opensSection
+      on-log last = rw (old, on-op)
+
+      module _ (l : i < length cs) where
+        pub sizing-on : {bytes logged last : ℕ} → Sizing ts cs i s bytes logged last
+            → Sizing ts cs (i + 1) (movedTo s (getD xs i (pos 0)) (getD ys i (pos 0))) (bytes + 4) logged last
+        sizing-on {logged = logged} {last = last} w =
+            let none : logged + 0 ≡ logged = omega arith in
+            rw none at (rw (on-state, on-long, on-log last) at (sizing-more l w))
+
+        pub log-on : (last : ℕ) → shorts (colorLog ts last s (drop i cs))
+            ≡ shorts (colorLog ts last (movedTo s (getD xs i (pos 0)) (getD ys i (pos 0))) (drop (i + 1) cs))
+        log-on last = rw (on-log last, on-state) at (next-entry l last)
+
+-- the state after, where the place of the last stitch was another
+next-moved : (ts : List Color) (s : PesState) (x y : ℤ) (new : Bool) (op : Op) (c : Cmd)
+    → pesNext ts (movedTo s x y) new op c ≡ movedTo (pesNext ts s new op c) (pesNext ts (movedTo s x y) new op c .x) (pesNext ts (movedTo s x y) new op c .y)
+unfolding pesNext
+next-moved ts s x y new Stitch c = refl
+next-moved ts s x y new Jump c = refl
+next-moved ts s x y new Trim c = refl
+next-moved ts s x y true ColorChange c = refl
+next-moved ts s x y false ColorChange c = refl
+next-moved ts s x y new End c = refl
+
+module _ (xs ys : List ℤ) (ks : List ℕ) (i : ℕ) (s : PesState) (ts : List Color) (x y : ℤ) where
+  abbrev pub elsewhere : PesState
+  elsewhere = stateAfter xs ys ks i (movedTo s x y) ts
+
+  pub after-moved : {t : PesState} → t ≡ stateAfter xs ys ks i s ts → elsewhere ≡ movedTo t (elsewhere .x) (elsewhere .y)
+  after-moved e =
+      subst (λ (t : PesState). elsewhere ≡ movedTo t (elsewhere .x) (elsewhere .y)) (sym e)
+      (next-moved ts s x y (newAt xs ys ks i s) (opOf (getD ks i 0)) (cmdAt xs ys ks i))
+
+pub within-on : {i : ℕ} {s : PesState} → Within i s → Within (i + 1) s
+within-on w = record { few-threads = omega (arith, w .few-threads); few-sections = omega (arith, w .few-sections) }
 
 -- no more
 module _ (ts : List Color) (cs : List Cmd) (i : ℕ) (l : length cs ≤ i) where

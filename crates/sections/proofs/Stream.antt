@@ -6,7 +6,7 @@ use mathlib.Core.List.{List, [], _++_}
 use lib.IntN.{ℤ, pos}
 use lib.ListN.{length, drop, getD}
 use Rattle.rules.specs.Lists.{opOf, commands}
-use Rattle.rules.specs.Pes.{PesState, pesStart, opens, pesNext, pesCmd, pesSections}
+use Rattle.rules.specs.Pes.{PesState, pesStart, opens, pesNext, pesPoint, pesCmd, pesSections}
 use Rattle.rules.specs.declared.Cmd.{Cmd}
 use Rattle.rules.specs.declared.Color.{Color}
 use Rattle.rules.specs.declared.Op.{Op}
@@ -14,7 +14,7 @@ use Rattle.rules.specs.declared.Op.the-variants.{Stitch, Jump, Trim, ColorChang
 use Rattle.laws.specs.Listing.{cmdAt, commands-more, list-end}
 use Rattle.sections.specs.States.{Near, placed}
 use Rattle.sections.proofs.Points.{near-at}
-use Rattle.sections.proofs.Steps.{newAt, stateAfter}
+use Rattle.sections.proofs.Steps.{newAt, stateAfter, on-op}
 
 -- the state at first, as the code has it
 pub near-start : (left bottom : ℤ) (ts : List Color) {t : PesState} → t ≡ pesStart ts → Near left bottom (pos 0) (pos 0) → Near left bottom (t .x) (t .y)
@@ -47,6 +47,11 @@ module _ (left bottom : ℤ) (ts : List Color) (s : PesState) where
     pub no-bytes : length cs ≤ i → pesSections left bottom ts s (drop i cs) ≡ []
     unfolding pesSections
     no-bytes l = rw (list-end cs i l)
+
+    -- a stitch of an open section is its point
+    pub on-bytes : newAt xs ys ks i s ≡ false → getD ks i 0 ≡ 0 → bytesAt ≡ pesPoint left bottom (getD xs i (pos 0)) (getD ys i (pos 0))
+    unfolding pesCmd
+    on-bytes old stitch = rw (old, on-op xs ys ks i s ts old stitch)
 
     module _ (l : i < length cs) where
       pub next-bytes : pesSections left bottom ts s (drop i cs) ≡ bytesAt ++ bytesAfter

@@ -19,6 +19,10 @@ use Rattle.sections.specs.declared.State.{State}
 abbrev pub stateOf : State → PesState
 stateOf s = record { before = s .before; code = s .code; thread = s .thread; x = s .x; y = s .y; sections = s .sections }
 
+-- at another place
+abbrev pub movedTo : PesState → ℤ → ℤ → PesState
+movedTo s x y = record { before = s .before; code = s .code; thread = s .thread; x = x; y = y; sections = s .sections }
+
 -- a section's beginning, and all that a command writes
 unfoldable pub openLen : ℕ → ℕ
 openLen sections = pick (eqb sections 0) 6 8

@@ -1,11 +1,12 @@
 // PES: the sections of a design, and the log of their colours.
-use codes::thread_code;
+use codes::code_at;
+use codes::thread_codes;
 use emit::put_short;
 use formats::list_len;
 use formats::op_of;
 use rules::Op;
 ghost use mathlib.Core.Path.{_≡_};
-ghost use mathlib.Core.Bool.{not};
+ghost use mathlib.Core.Bool.{true, false, not};
 ghost use mathlib.Core.List.{[], _∷_};
 ghost use Prim.Native.Nat.{_+_, _<_, _≤_};
 ghost use lib.Dec.{eqb};
@@ -17,7 +18,8 @@ ghost use Rattle.rules.specs.Pes.{runLength, pesStart, pesNext, pesPoint, pesOp
 ghost use Rattle.rules.specs.declared.Op.the-variants.{Stitch, Jump, ColorChange};
 ghost use Rattle.laws.specs.Buffers.{Put};
 ghost use Rattle.laws.specs.Listing.{cmdAt};
-ghost use Rattle.sections.specs.States.{stateOf, openLen, cmdLen, Near, placed, logs, measures};
+ghost use Rattle.codes.specs.Codes.{Coded};
+ghost use Rattle.sections.specs.States.{stateOf, movedTo, openLen, cmdLen, Near, placed, logs, measures};
 
 // Between two commands: the kind of the one before, the entry in use, the next thread, the place of the last stitch, the
 // sections so far.
@@ -30,12 +32,13 @@ pub struct State {
     pub sections: usize,
 }
 
-fn start(threads: &[u8]) -> State
+fn start(codes: &[u8; 256], threads: &[u8]) -> State
+    requires { ⌜ Coded (threadsOf (now threads)) (now codes) ⌝ }
     ensures { λ r. ⌜ stateOf r ≡ pesStart (threadsOf (now (threads .entry))) ⌝ }
 {
     State {
         before: 4,
-        code: thread_code(threads, 0),
+        code: code_at(codes, threads, 0),
         thread: 1,
         x: 0,
         y: 0,
@@ -60,8 +63,41 @@ fn is_new(s: State, kind: u8) -> bool
     kind != s.before
 }
 
+// Whether it is a stitch of an open section.
+fn goes_on(new: bool, kind: u8) -> bool
+    ensures { λ r. ⌜ (r ≡ true → (new ≡ false) × (kind ≡ 0)) ⌝ }
+{
+    if new {
+        return false;
+    }
+    kind == 0
+}
+
+// After such a stitch.
+fn moved(s: State, x: i32, y: i32) -> State
+    ensures { λ r. ⌜ stateOf r ≡ movedTo (stateOf s) x y ⌝ }
+{
+    State {
+        before: s.before,
+        code: s.code,
+        thread: s.thread,
+        x,
+        y,
+        sections: s.sections,
+    }
+}
+
 // After a colour change: a run of them moves on by one thread.
-fn changed(threads: &[u8], s: State, new: bool, kind: u8, x: i32, y: i32) -> State
+fn changed(
+    codes: &[u8; 256],
+    threads: &[u8],
+    s: State,
+    new: bool,
+    kind: u8,
+    x: i32,
+    y: i32,
+) -> State
+    requires { ⌜ Coded (threadsOf (now threads)) (now codes) ⌝ }
     requires { ⌜ s .thread ≤ 65536 ⌝ }
     ensures { λ r. ⌜ stateOf r ≡ pesNext (threadsOf (now (threads .entry))) (stateOf s) new ColorChange (record { x = x; y = y; kind = kind }) ⌝ }
 {
@@ -70,7 +106,7 @@ fn changed(threads: &[u8], s: State, new: bool, kind: u8, x: i32, y: i32) -> Sta
     if new {
         return State {
             before: kind,
-            code: thread_code(threads, thread),
+            code: code_at(codes, threads, thread),
             thread: thread + 1,
             x: s.x,
             y: s.y,
@@ -88,7 +124,8 @@ fn changed(threads: &[u8], s: State, new: bool, kind: u8, x: i32, y: i32) -> Sta
 }
 
 // After a command of a kind, which leads to (x, y).
-fn next(threads: &[u8], s: State, new: bool, kind: u8, x: i32, y: i32) -> State
+fn next(codes: &[u8; 256], threads: &[u8], s: State, new: bool, kind: u8, x: i32, y: i32) -> State
+    requires { ⌜ Coded (threadsOf (now threads)) (now codes) ⌝ }
     requires { ⌜ (s .thread ≤ 65536) × (s .sections ≤ 65535) ⌝ }
     ensures { λ r. ⌜ stateOf r ≡ pesNext (threadsOf (now (threads .entry))) (stateOf s) new (opOf kind) (record { x = x; y = y; kind = kind }) ⌝ }
 {
@@ -109,7 +146,7 @@ fn next(threads: &[u8], s: State, new: bool, kind: u8, x: i32, y: i32) -> State
             y: s.y,
             sections: s.sections + one_if(new),
         },
-        Op::ColorChange => changed(threads, s, new, kind, x, y),
+        Op::ColorChange => changed(codes, threads, s, new, kind, x, y),
         Op::Trim | Op::End => State {
             before: kind,
             code: s.code,
@@ -274,14 +311,23 @@ pub fn put_sections(
     ensures { λ r. ⌜ Put (now (out .entry)) (now (out .exit)) at r (pesSections left bottom (threadsOf (now (threads .entry))) (pesStart (threadsOf (now (threads .entry)))) (commands (now (xs .entry)) (now (ys .entry)) (now (kinds .entry)))) ⌝ }
 {
     let n = list_len(xs, ys, kinds);
-    let mut s = start(threads);
+    let codes = thread_codes(threads);
+    let mut s = start(&codes, threads);
     let mut to = at;
     let mut i = 0;
     while i < n {
         let kind = kinds[i];
         let new = is_new(s, kind);
+        if goes_on(new, kind) {
+            let x = xs[i];
+            let y = ys[i];
+            to = put_point(left, bottom, x, y, out, to);
+            s = moved(s, x, y);
+            i += 1;
+            continue;
+        }
         to = put_cmd(left, bottom, s, new, xs, ys, kinds, i, out, to);
-        s = next(threads, s, new, kind, xs[i], ys[i]);
+        s = next(&codes, threads, s, new, kind, xs[i], ys[i]);
         i += 1;
     }
     to
@@ -349,7 +395,8 @@ pub fn measured(threads: &[u8], xs: &[i32], ys: &[i32], kinds: &[u8]) -> Sizes
     ensures { λ r. ⌜ measures (threadsOf (now (threads .entry))) (commands (now (xs .entry)) (now (ys .entry)) (now (kinds .entry))) r ⌝ }
 {
     let n = list_len(xs, ys, kinds);
-    let mut s = start(threads);
+    let codes = thread_codes(threads);
+    let mut s = start(&codes, threads);
     let mut bytes = 0;
     let mut logged = 0;
     let mut last = 65;
@@ -357,11 +404,16 @@ pub fn measured(threads: &[u8], xs: &[i32], ys: &[i32], kinds: &[u8]) -> Sizes
     while i < n {
         let kind = kinds[i];
         let new = is_new(s, kind);
+        if goes_on(new, kind) {
+            bytes += 4;
+            i += 1;
+            continue;
+        }
         let log = is_logged(last, s.code, new, kind);
         bytes += cmd_len(s.sections, new, kind);
         logged += one_if(log);
         last = last_code(log, s.code, last);
-        s = next(threads, s, new, kind, xs[i], ys[i]);
+        s = next(&codes, threads, s, new, kind, xs[i], ys[i]);
         i += 1;
     }
     Sizes {
@@ -397,17 +449,22 @@ pub fn put_log(
     ensures { λ r. ⌜ Put (now (out .entry)) (now (out .exit)) at r (shorts (colorLog (threadsOf (now (threads .entry))) 65 (pesStart (threadsOf (now (threads .entry)))) (commands (now (xs .entry)) (now (ys .entry)) (now (kinds .entry))))) ⌝ }
 {
     let n = list_len(xs, ys, kinds);
-    let mut s = start(threads);
+    let codes = thread_codes(threads);
+    let mut s = start(&codes, threads);
     let mut last = 65;
     let mut to = at;
     let mut i = 0;
     while i < n {
         let kind = kinds[i];
         let new = is_new(s, kind);
+        if goes_on(new, kind) {
+            i += 1;
+            continue;
+        }
         let log = is_logged(last, s.code, new, kind);
         to = put_entry(log, s.sections, s.code, out, to);
         last = last_code(log, s.code, last);
-        s = next(threads, s, new, kind, xs[i], ys[i]);
+        s = next(&codes, threads, s, new, kind, xs[i], ys[i]);
         i += 1;
     }
     to

@@ -29,7 +29,7 @@ unfolding within
 off-picture zero h = absurd (omega arith)
 off-picture (suc q) h = refl
 
-minus-zero : (a d : ℕ) → a ≡ 0 → 0 < d → within (negℤ (pos ((a + (d - 1)) / d))) ≡ 0
+pub minus-zero : (a d : ℕ) → a ≡ 0 → 0 < d → within (negℤ (pos ((a + (d - 1)) / d))) ≡ 0
 unfolding within
 minus-zero a d e h = rw (e, up-of-none d h)
 

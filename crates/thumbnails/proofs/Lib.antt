@@ -1,5 +1,6 @@
 -- What the proofs cite; `Sizes` is for other crates too.
 pub mod Floors
+pub mod Cells
 pub mod Joined
 pub mod Sizes
 pub mod Turns

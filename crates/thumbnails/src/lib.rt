@@ -12,9 +12,10 @@ ghost use lib.ListN.{length, drop};
 ghost use lib.Seq.{slice};
 ghost use Rattle.rules.specs.Charts.{blankIcon};
 ghost use Rattle.rules.specs.Lists.{isChange, commands};
-ghost use Rattle.rules.specs.Thumbnails.{atLeastOne, lesser, spanOf, middle, scaleBy, offset, scaleOf, floorOf, within, pixelAt, pixel, painted, marked, drawn, icons};
+ghost use Rattle.rules.specs.Thumbnails.{atLeastOne, lesser, spanOf, middle, scaleBy, offset, scaleOf, floorOf, within, pixel, painted, marked, drawn, icons};
 ghost use Rattle.laws.specs.Buffers.{Put};
 ghost use Rattle.thumbnails.specs.Blocks.{changeFrom, blockIcons};
+ghost use Rattle.thumbnails.specs.Cells.{scaledAt, noCell, isIn, Covers, Seen};
 
 // The larger of a number and 1.0.
 fn at_least_one(x: f64) -> f64
@@ -89,11 +90,11 @@ fn floor(x: f64) -> usize
     48
 }
 
-// From a place on one axis to its pixel number.
-fn pixel_at(z: i32, scale: f64, t: f64) -> usize
-    ensures { λ r. ⌜ r ≡ pixelAt z scale t ⌝ }
+// From a place on one axis to a place in the picture.
+fn scaled(z: i32, scale: f64, t: f64) -> f64
+    ensures { λ r. ⌜ r ≡ scaledAt z scale t ⌝ }
 {
-    floor((z as f64) * scale + t)
+    (z as f64) * scale + t
 }
 
 // Sets a pixel; none outside the thumbnail, and none in row 0.
@@ -114,25 +115,87 @@ fn set_pixel(icon: &mut [u8], x: usize, y: usize)
     icon[i] |= 1 << (x % 8);
 }
 
-// Paints the place of a stitch.
-fn paint(s: Scale, icon: &mut [u8], x: i32, y: i32)
-    requires { ⌜ length (now icon) ≡ 228 ⌝ }
-    ensures { λ _. ⌜ now (icon .exit) ≡ painted s (now (icon .entry)) x y ⌝ }
+// A pixel by the places that lie in it: from left to before right and from top to before bottom.
+pub struct Cell {
+    pub left: f64,
+    pub right: f64,
+    pub top: f64,
+    pub bottom: f64,
+}
+
+// No place lies in it.
+fn no_cell() -> Cell
+    ensures { λ r. ⌜ r ≡ noCell ⌝ }
 {
-    let column = pixel_at(x, s.scale, s.tx);
-    let row = pixel_at(y, s.scale, s.ty);
+    Cell {
+        left: 1.0,
+        right: 0.0,
+        top: 1.0,
+        bottom: 0.0,
+    }
+}
+
+// Whether a place lies in a cell.
+fn is_in(c: Cell, x: f64, y: f64) -> bool
+    ensures { λ r. ⌜ r ≡ isIn c x y ⌝ }
+{
+    if x < c.left {
+        return false;
+    }
+    if y < c.top {
+        return false;
+    }
+    if x < c.right {
+        return y < c.bottom;
+    }
+    false
+}
+
+// The cell of a pixel, and none for a pixel outside the picture.
+fn cell_of(x: usize, y: usize) -> Cell
+    ensures { λ r. ⌜ Covers r x y ⌝ }
+{
+    if 48 <= x {
+        return no_cell();
+    }
+    if 48 <= y {
+        return no_cell();
+    }
+    let column = x as u32;
+    let row = y as u32;
+    Cell {
+        left: column as f64,
+        right: (column + 1) as f64,
+        top: row as f64,
+        bottom: (row + 1) as f64,
+    }
+}
+
+// Paints the place of a stitch, unless it lies in the cell painted last. Answers the cell painted last.
+fn paint(s: Scale, icon: &mut [u8], last: Cell, x: i32, y: i32) -> Cell
+    requires { ⌜ (length (now icon) ≡ 228) × Seen last (now icon) ⌝ }
+    ensures { λ r. ⌜ (now (icon .exit) ≡ painted s (now (icon .entry)) x y) × Seen r (now (icon .exit)) ⌝ }
+{
+    let across = scaled(x, s.scale, s.tx);
+    let down = scaled(y, s.scale, s.ty);
+    if is_in(last, across, down) {
+        return last;
+    }
+    let column = floor(across);
+    let row = floor(down);
     set_pixel(icon, column, row);
+    cell_of(column, row)
 }
 
 // A stitch paints its place, any other command nothing.
-fn mark(s: Scale, icon: &mut [u8], op: Op, x: i32, y: i32)
-    requires { ⌜ length (now icon) ≡ 228 ⌝ }
-    ensures { λ _. ⌜ now (icon .exit) ≡ marked s (now (icon .entry)) op x y ⌝ }
+fn mark(s: Scale, icon: &mut [u8], last: Cell, op: Op, x: i32, y: i32) -> Cell
+    requires { ⌜ (length (now icon) ≡ 228) × Seen last (now icon) ⌝ }
+    ensures { λ r. ⌜ (now (icon .exit) ≡ marked s (now (icon .entry)) op x y) × Seen r (now (icon .exit)) ⌝ }
 {
     let Op::Stitch = op else {
-        return;
+        return last;
     };
-    paint(s, icon, x, y);
+    paint(s, icon, last, x, y)
 }
 
 // The thumbnail of the commands from `from` to before `to`.
@@ -141,9 +204,11 @@ fn draw_scaled(s: Scale, xs: &[i32], ys: &[i32], kinds: &[u8], from: usize, to: 
     ensures { λ r. ⌜ r ≡ drawn s blankIcon (slice from to (commands (now (xs .entry)) (now (ys .entry)) (now (kinds .entry)))) ⌝ }
 {
     let mut icon = pec_icon_blank();
+    let mut last = no_cell();
     let mut i = from;
     while i < to {
-        mark(s, &mut icon, op_of(kinds[i]), xs[i], ys[i]);
+        let next = mark(s, &mut icon, last, op_of(kinds[i]), xs[i], ys[i]);
+        last = next;
         i += 1;
     }
     icon

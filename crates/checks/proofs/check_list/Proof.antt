@@ -1,8 +1,23 @@
 -- The answer is the first of refusals 6 to 10 that holds, asked in their order.
-use Rattle.rules.specs.Refusals.{verdict, listRefusals, listVerdict}
+use mathlib.Core.Path.{_≡_, sym, _∙_}
+use mathlib.Core.Bool.{false}
+use mathlib.Core.List.{List}
+use Prim.Native.Nat.{ℕ, _≤_}
+use borrow.Author.Tests.{ltb-false}
+use denote.Ref.{now}
+use lib.Dec.{eqb}
+use lib.IntN.{ℤ}
+use lib.ListN.{length}
+use Rattle.rules.specs.Refusals.{badList, verdict, listRefusals, listVerdict}
+use Rattle.laws.specs.Tests.{or-no-left, or-no-right}
 use borrow.Author.Needs.{needs}
 use Rattle.checks.proofs.check_list.Statement.{statement}
 use Rattle.checks.proofs.check_list.Tie as tie
+
+-- a list that passes 6 has 65,535 commands at most
+few : (xs ys : List ℤ) (ks : List ℕ) → badList xs ys ks ≡ false → length ks ≤ 65535
+unfolding badList
+few xs ys ks e = ltb-false 65535 (length ks) (or-no-left _ _ (or-no-right (eqb (length ks) 0) _ e))
 
 bad-list-requires : tie.Need-bad-list-requires
 bad-list-requires c κs = search needs
@@ -26,7 +41,10 @@ returns-2 c =
     )
 
 too-many-requires : tie.Need-too-many-requires
-too-many-requires c κs = search needs
+too-many-requires c κs =
+    let e1 = c .before .before in
+    let a = e1 .before .before .before .before .args in
+    few (now (a .xs)) (now (a .ys)) (now (a .kinds)) (sym (e1 .before .bad-list .ensures) ∙ e1 .if1 .left)
 
 returns-3 : tie.Need-returns-3
 unfolding listVerdict listRefusals verdict
@@ -63,7 +81,9 @@ returns-4 c =
     )
 
 step-too-long-requires : tie.Need-step-too-long-requires
-step-too-long-requires c κs = search needs
+step-too-long-requires c κs =
+    let e2 = c .before .before .before .before in
+    sym (e2 .before .place-outside .ensures) ∙ e2 .if2 .left
 
 returns-5 : tie.Need-returns-5
 unfolding listVerdict listRefusals verdict

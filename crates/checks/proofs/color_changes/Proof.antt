@@ -1,15 +1,15 @@
 -- The count for the whole list is what was found and the count for the commands that are left.
-use mathlib.Core.Path.{_≡_, sym, ap, _∙_}
+use mathlib.Core.Path.{_≡_, refl, sym, ap, _∙_}
+use mathlib.Core.Bool.{Bool, true, false}
 use Prim.Native.Nat.{_+_, _-_, _≤_, _<_}
 use native.Mathlib.Omega.{arith}
 use denote.Ref.{now}
 use lib.ListN.{length, drop}
-use mathlib.Core.Logic.{⊎-elim}
-use mathlib.Core.Bool.{Bool, true, false}
+use mir.Val.{boolByte}
 use Rattle.rules.specs.Vocabulary.{count, pick}
 use Rattle.rules.specs.Lists.{commands}
 use Rattle.rules.specs.Refusals.{changes}
-use Rattle.laws.specs.Listing.{count-more, count-end, noCmd, commands-at}
+use Rattle.laws.specs.Listing.{count-more, count-end, count-le, noCmd, commands-at}
 use Rattle.checks.proofs.Walk.{Held, held}
 use Rattle.checks.proofs.color_changes.Statement.{statement}
 use Rattle.checks.proofs.color_changes.Tie as tie
@@ -17,26 +17,32 @@ use Rattle.checks.proofs.color_changes.Tie as tie
 abbrev Inv-loop : tie.InvT-loop
 Inv-loop xs ys kinds n found₀ i₀ found i =
     Held xs ys kinds n
-    × ((found ≤ i)
+    × ((count changes (commands xs ys kinds) ≤ 65535)
     × (count changes (commands xs ys kinds) ≡ found + count changes (drop i (commands xs ys kinds))))
 
 abbrev μ-loop : tie.MeasureT-loop
 μ-loop xs ys kinds n found₀ i₀ found i = n - i
 
+-- a bool as a number
+byte-is : (t : Bool) → pick t 1 0 ≡ boolByte t
+byte-is true = refl
+byte-is false = refl
+
 -- a turn: the call tells whether one more is found
-turn : (c : tie.After-is-change Inv-loop μ-loop) (t : Bool) → c .is-change .result ≡ t
+turn : (c : tie.After-is-change Inv-loop μ-loop)
     → (let head = c .before .before .before in
     let a = head .before .before .before .args in
     let cs = commands (now (a .xs)) (now (a .ys)) (now (a .kinds)) in
-    count changes cs ≡ head .loop .found + pick t 1 0 + count changes (drop (head .loop .i + 1) cs))
+    count changes cs ≡ head .loop .found + boolByte (c .is-change .result) + count changes (drop (head .loop .i + 1) cs))
 unfolding changes
-turn c t e =
+turn c =
     let head = c .before .before .before in
     let a = head .before .before .before .args in
     let cs = commands (now (a .xs)) (now (a .ys)) (now (a .kinds)) in
     let l : head .loop .i < length cs = omega arith in
-    count-more changes cs noCmd (head .loop .i) (head .loop .found) (head .loop .inv .1 .1) t l
-    (ap changes (commands-at (now (a .xs)) (now (a .ys)) (now (a .kinds)) (head .loop .i) l) ∙ sym (c .is-change .ensures) ∙ e)
+    rw byte-is at
+    (count-more changes cs noCmd (head .loop .i) (head .loop .found) (head .loop .inv .1 .1) (c .is-change .result) l
+    (ap changes (commands-at (now (a .xs)) (now (a .ys)) (now (a .kinds)) (head .loop .i) l) ∙ sym (c .is-change .ensures)))
 
 list-len-requires : tie.Need-list-len-requires Inv-loop μ-loop
 list-len-requires c κs = tt
@@ -44,7 +50,9 @@ list-len-requires c κs = tt
 loop-holds : tie.Need-loop-holds Inv-loop μ-loop
 loop-holds c =
     let a = c .before .before .args in
-    (held (now (a .xs)) (now (a .ys)) (now (a .kinds)) (c .list-len .result) (c .list-len .ensures), (omega arith, omega arith))
+    let cs = commands (now (a .xs)) (now (a .ys)) (now (a .kinds)) in
+    let h = held (now (a .xs)) (now (a .ys)) (now (a .kinds)) (c .list-len .result) (c .list-len .ensures) in
+    (h, (omega (arith, count-le changes cs), omega arith))
 
 shared-slice-read-is-change : tie.Need-shared-slice-read-is-change Inv-loop μ-loop
 shared-slice-read-is-change c = omega arith
@@ -52,8 +60,11 @@ shared-slice-read-is-change c = omega arith
 is-change-requires : tie.Need-is-change-requires Inv-loop μ-loop
 is-change-requires c κs = tt
 
+cast-found : tie.Need-cast-found Inv-loop μ-loop
+cast-found c = tt
+
 add-found : tie.Need-add-found Inv-loop μ-loop
-add-found c = omega arith
+add-found c = omega (arith, turn c)
 
 add-i : tie.Need-add-i Inv-loop μ-loop
 add-i c = omega arith
@@ -62,13 +73,10 @@ loop-less : tie.Need-loop-less Inv-loop μ-loop
 loop-less c = omega arith
 
 loop-again : tie.Need-loop-again Inv-loop μ-loop
-loop-again c = (
-  c .before .before .before .before .loop .inv .0,
-  ⊎-elim
-      (λ w. (omega arith, omega (arith, turn (c .before) true (w .0 .taken))))
-      (λ w. (omega arith, omega (arith, turn (c .before) false (w .0 .left))))
-      (c .if1 .came),
-)
+loop-again c = let inv = c .before .before .before .loop .inv in (inv .0, (inv .1 .0, turn c))
+
+cast-result : tie.Need-cast-result Inv-loop μ-loop
+cast-result c = omega arith
 
 returns : tie.Need-returns Inv-loop μ-loop
 returns c =
@@ -87,8 +95,10 @@ color-changes-spec =
     loop-holds
     shared-slice-read-is-change
     is-change-requires
+    cast-found
     add-found
     add-i
     loop-less
     loop-again
+    cast-result
     returns)

@@ -1,5 +1,4 @@
--- Two places are one where both axes agree: x is asked first, then y.
-use mathlib.Core.Path.{sym, _∙_}
+-- Two places are one where both axes agree.
 use mir.Facts.{toZ-ofZ}
 use Rattle.rules.specs.Lists.{samePlace}
 use borrow.Author.Needs.{needs}
@@ -15,17 +14,9 @@ is-same-requires-2 c κs = search needs
 returns : tie.Need-returns
 unfolding samePlace
 returns c =
-    let first = c .before .before in
-    let f = first .before .fits in
-    rw (sym (simp (toZ-ofZ (f .x0), toZ-ofZ (f .x)) at (first .is-same .ensures)) ∙ c .before .if1 .taken)
-    (simp (toZ-ofZ (f .y0), toZ-ofZ (f .y)) at (c .is-same2 .ensures))
-
-returns-2 : tie.Need-returns-2
-unfolding samePlace
-returns-2 c =
-    let first = c .before in
-    let f = first .before .fits in
-    rw (sym (simp (toZ-ofZ (f .x0), toZ-ofZ (f .x)) at (first .is-same .ensures)) ∙ c .if1 .left)
+    let f = c .before .before .fits in
+    rw (c .before .is-same .ensures, c .is-same2 .ensures)
+    (simp (toZ-ofZ (f .x0), toZ-ofZ (f .y0), toZ-ofZ (f .x), toZ-ofZ (f .y)))
 
 pub is-same-place-spec : {M : Type 1} → statement M
-is-same-place-spec = tie.close (tie.spec is-same-requires is-same-requires-2 returns returns-2)
+is-same-place-spec = tie.close (tie.spec is-same-requires is-same-requires-2 returns)

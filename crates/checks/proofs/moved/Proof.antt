@@ -1,5 +1,6 @@
--- The answer for the whole list is that for the commands that are left, from the place before.
+-- What is gathered tells the commands before i, and what is left the others, from the place before.
 use mathlib.Core.Path.{_≡_, refl}
+use mathlib.Core.Bool.{_||_}
 use Prim.Native.Nat.{_-_}
 use native.Mathlib.Omega.{arith}
 use denote.Ref.{now}
@@ -8,17 +9,17 @@ use mir.Syntax.{w32}
 use mir.Val.{toZ}
 use Rattle.rules.specs.Lists.{commands, anyFrom}
 use Rattle.rules.specs.Refusals.{moves, moved}
-use Rattle.checks.proofs.Walk.{Held, held, step-hit, step-miss, step-end}
+use Rattle.checks.proofs.Walk.{Held, held, step-more, step-end}
 use Rattle.checks.proofs.moved.Statement.{statement}
 use Rattle.checks.proofs.moved.Tie as tie
 
 abbrev Inv-loop : tie.InvT-loop
-Inv-loop xs ys kinds n x₀ y₀ i₀ x y i =
+Inv-loop xs ys kinds n x₀ y₀ bad₀ i₀ x y bad i =
     Held xs ys kinds n
-    × (moved (commands xs ys kinds) ≡ anyFrom moves (toZ w32 x) (toZ w32 y) (drop i (commands xs ys kinds)))
+    × (moved (commands xs ys kinds) ≡ (bad || anyFrom moves (toZ w32 x) (toZ w32 y) (drop i (commands xs ys kinds))))
 
 abbrev μ-loop : tie.MeasureT-loop
-μ-loop xs ys kinds n x₀ y₀ i₀ x y i = n - i
+μ-loop xs ys kinds n x₀ y₀ bad₀ i₀ x y bad i = n - i
 
 list-len-requires : tie.Need-list-len-requires Inv-loop μ-loop
 list-len-requires c κs = tt
@@ -47,16 +48,6 @@ shared-slice-read-moves c = omega arith
 moves-requires : tie.Need-moves-requires Inv-loop μ-loop
 moves-requires c κs = tt
 
-returns : tie.Need-returns Inv-loop μ-loop
-unfolding moves
-returns c =
-    let call = c .before in
-    let inside = call .before .before .before .before in
-    let loop = inside .before .loop in
-    step-hit (loop .inv .0) (loop .i) moves (toZ w32 (loop .x)) (toZ w32 (loop .y)) (loop .inv .1)
-    (inside .loop-test .taken) (call .before .before .before .nx .given) (call .before .before .ny .given)
-    (call .moves .ensures) (c .if1 .taken)
-
 add-i : tie.Need-add-i Inv-loop μ-loop
 add-i c = omega arith
 
@@ -66,19 +57,17 @@ loop-less c = omega arith
 loop-again : tie.Need-loop-again Inv-loop μ-loop
 unfolding moves
 loop-again c =
-    let call = c .before in
-    let inside = call .before .before .before .before in
+    let inside = c .before .before .before .before in
     let loop = inside .before .loop in (
       loop .inv .0,
-      step-miss (loop .inv .0) (loop .i) moves (toZ w32 (loop .x)) (toZ w32 (loop .y)) (loop .inv .1)
-          (inside .loop-test .taken) (call .before .before .before .nx .given) (call .before .before .ny .given)
-          (call .moves .ensures) (c .if1 .left),
+      step-more (loop .inv .0) (loop .i) moves (toZ w32 (loop .x)) (toZ w32 (loop .y)) (loop .bad) (loop .inv .1)
+          (inside .loop-test .taken) (c .before .before .before .nx .given) (c .before .before .ny .given) (c .moves .ensures),
     )
 
-returns-2 : tie.Need-returns-2 Inv-loop μ-loop
-returns-2 c =
+returns : tie.Need-returns Inv-loop μ-loop
+returns c =
     let loop = c .before .loop in
-    step-end (loop .inv .0) (loop .i) moves (toZ w32 (loop .x)) (toZ w32 (loop .y)) (loop .inv .1) (c .loop-test .left)
+    step-end (loop .inv .0) (loop .i) moves (toZ w32 (loop .x)) (toZ w32 (loop .y)) (loop .bad) (loop .inv .1) (c .loop-test .left)
 
 pub moved-spec : {M : Type 1} → statement M
 moved-spec =
@@ -94,8 +83,7 @@ moved-spec =
     shared-slice-copy-out-ny
     shared-slice-read-moves
     moves-requires
-    returns
     add-i
     loop-less
     loop-again
-    returns-2)
+    returns)

@@ -1,33 +1,66 @@
--- The answer for the whole list is that for the commands that are left, from the place before.
-use mathlib.Core.Path.{_≡_, refl}
+-- What is gathered tells the commands before i, and what is left the others, from the place before. All places are in range, so no difference is past 32,000.
+use mathlib.Core.Path.{_≡_, refl, ap, _∙_}
+use mathlib.Core.Bool.{Bool, _&&_, _||_, not}
 use Prim.Native.Nat.{_-_}
 use native.Mathlib.Omega.{arith}
 use denote.Ref.{now}
 use lib.ListN.{drop}
+use lib.IntN.{ℤ, pos, _-ℤ_}
 use mir.Syntax.{w32}
-use mir.Val.{toZ}
-use Rattle.rules.specs.Lists.{commands, anyFrom}
+use mir.Val.{toZ, ofZ}
+use mir.Facts.{toZ-ofZ}
+use Rattle.rules.specs.Vocabulary.{between}
+use Rattle.rules.specs.Lists.{commands, anyFrom, stepIn}
 use Rattle.rules.specs.Refusals.{stepsPast, stepTooLong}
-use Rattle.checks.proofs.Walk.{Held, held, step-hit, step-miss, step-end}
+use Rattle.rules.specs.declared.Cmd.{Cmd}
+use Rattle.laws.specs.Ints.{ints, ret, abs-is}
+use Rattle.laws.specs.Places.{Small, Within}
+use Rattle.checks.proofs.Walk.{Held, held, readAt, here, step-more, step-end}
 use Rattle.checks.proofs.step_too_long.Statement.{statement}
 use Rattle.checks.proofs.step_too_long.Tie as tie
 
+-- a step past the limits lo and hi
+abbrev past : ℤ → ℤ → ℤ → ℤ → Cmd → Bool
+past lo hi x y c = not (between lo hi (c .x -ℤ x) && between lo hi (c .y -ℤ y))
+
 abbrev Inv-loop : tie.InvT-loop
-Inv-loop f xs ys kinds n x₀ y₀ i₀ x y i =
+Inv-loop xs ys kinds n lo hi x₀ y₀ bad₀ i₀ x y bad i =
     Held xs ys kinds n
-    × (stepTooLong f (commands xs ys kinds) ≡ anyFrom (stepsPast f) (toZ w32 x) (toZ w32 y) (drop i (commands xs ys kinds)))
+    × ((Small (toZ w32 x) × Small (toZ w32 y))
+    × (anyFrom (past (toZ w32 lo) (toZ w32 hi)) (pos 0) (pos 0) (commands xs ys kinds)
+    ≡ (bad || anyFrom (past (toZ w32 lo) (toZ w32 hi)) (toZ w32 x) (toZ w32 y) (drop i (commands xs ys kinds)))))
 
 abbrev μ-loop : tie.MeasureT-loop
-μ-loop f xs ys kinds n x₀ y₀ i₀ x y i = n - i
+μ-loop xs ys kinds n lo hi x₀ y₀ bad₀ i₀ x y bad i = n - i
+
+-- the command at i, which is in range
+abbrev next : tie.After-ny Inv-loop μ-loop → Cmd
+next c =
+    let head = c .before .before .before in
+    let a = head .before .before .before .before .before .args in
+    readAt (now (a .xs)) (now (a .ys)) (now (a .kinds)) (head .loop .i)
+
+near : (c : tie.After-ny Inv-loop μ-loop) → Within (next c)
+near c =
+    let inside = c .before .before in
+    let head = inside .before in
+    here (head .loop .inv .0) (head .loop .i) (head .before .before .before .before .before .pre) (inside .loop-test .taken)
+    (c .before .nx .given) (c .ny .given)
 
 list-len-requires : tie.Need-list-len-requires Inv-loop μ-loop
 list-len-requires c κs = tt
 
+least-step-requires : tie.Need-least-step-requires Inv-loop μ-loop
+least-step-requires c κs = tt
+
+greatest-step-requires : tie.Need-greatest-step-requires Inv-loop μ-loop
+greatest-step-requires c κs = tt
+
 loop-holds : tie.Need-loop-holds Inv-loop μ-loop
-unfolding stepTooLong
 loop-holds c =
-    let a = c .before .before .args in
-    (held (now (a .xs)) (now (a .ys)) (now (a .kinds)) (c .list-len .result) (c .list-len .ensures), refl)
+    let a = c .before .before .before .before .args in
+    let len = c .before .before in
+    (held (now (a .xs)) (now (a .ys)) (now (a .kinds)) (len .list-len .result) (len .list-len .ensures), (omega arith, refl))
 
 mul-nx : tie.Need-mul-nx Inv-loop μ-loop
 mul-nx c = omega arith
@@ -41,20 +74,18 @@ mul-ny c = omega arith
 shared-slice-copy-out-ny : tie.Need-shared-slice-copy-out-ny Inv-loop μ-loop
 shared-slice-copy-out-ny c = omega arith
 
-steps-past-requires : tie.Need-steps-past-requires Inv-loop μ-loop
-steps-past-requires c κs = tt
+sub-is-step-in : tie.Need-sub-is-step-in Inv-loop μ-loop
+sub-is-step-in c =
+    let loop = c .before .before .before .loop in
+    omega (ints, near c .across, abs-is (next c .x), loop .inv .1 .0 .0, abs-is (toZ w32 (loop .x)))
 
-returns : tie.Need-returns Inv-loop μ-loop
-unfolding stepsPast
-returns c =
-    let call = c .before in
-    let inside = call .before .before .before in
-    let head = inside .before in
-    let loop = head .loop in
-    let p = stepsPast (head .before .before .before .args .f) in
-    step-hit (loop .inv .0) (loop .i) p (toZ w32 (loop .x)) (toZ w32 (loop .y)) (loop .inv .1)
-    (inside .loop-test .taken) (call .before .before .nx .given) (call .before .ny .given)
-    (call .steps-past .ensures) (c .if1 .taken)
+sub-is-step-in-2 : tie.Need-sub-is-step-in-2 Inv-loop μ-loop
+sub-is-step-in-2 c =
+    let loop = c .before .before .before .loop in
+    omega (ints, near c .down, abs-is (next c .y), loop .inv .1 .0 .1, abs-is (toZ w32 (loop .y)))
+
+is-step-in-requires : tie.Need-is-step-in-requires Inv-loop μ-loop
+is-step-in-requires c κs = tt
 
 add-i : tie.Need-add-i Inv-loop μ-loop
 add-i c = omega arith
@@ -63,25 +94,33 @@ loop-less : tie.Need-loop-less Inv-loop μ-loop
 loop-less c = omega arith
 
 loop-again : tie.Need-loop-again Inv-loop μ-loop
-unfolding stepsPast
 loop-again c =
-    let call = c .before in
-    let inside = call .before .before .before in
+    let b = c .before in
+    let inside = b .before .before in
     let head = inside .before in
     let loop = head .loop in
-    let p = stepsPast (head .before .before .before .args .f) in (
+    let lo = toZ w32 (ofZ w32 (head .before .before .least-step .result)) in
+    let hi = toZ w32 (ofZ w32 (head .before .greatest-step .result)) in (
       loop .inv .0,
-      step-miss (loop .inv .0) (loop .i) p (toZ w32 (loop .x)) (toZ w32 (loop .y)) (loop .inv .1)
-          (inside .loop-test .taken) (call .before .before .nx .given) (call .before .ny .given)
-          (call .steps-past .ensures) (c .if1 .left),
+      (
+        (near b .across, near b .down),
+        step-more (loop .inv .0) (loop .i) (past lo hi) (toZ w32 (loop .x)) (toZ w32 (loop .y)) (loop .bad) (loop .inv .1 .1)
+            (inside .loop-test .taken) (b .before .nx .given) (b .ny .given)
+            (ap not (rw (toZ-ofZ (sub-is-step-in b), toZ-ofZ (sub-is-step-in-2 b)) at (c .is-step-in .ensures))),
+      ),
     )
 
-returns-2 : tie.Need-returns-2 Inv-loop μ-loop
-returns-2 c =
+returns : tie.Need-returns Inv-loop μ-loop
+unfolding stepTooLong stepsPast stepIn
+returns c =
     let head = c .before in
     let loop = head .loop in
-    let p = stepsPast (head .before .before .before .args .f) in
-    step-end (loop .inv .0) (loop .i) p (toZ w32 (loop .x)) (toZ w32 (loop .y)) (loop .inv .1) (c .loop-test .left)
+    let low = head .before .before .least-step in
+    let high = head .before .greatest-step in
+    let lo = toZ w32 (ofZ w32 (low .result)) in
+    let hi = toZ w32 (ofZ w32 (high .result)) in
+    rw (ret w32 (low .result) (low .ok) ∙ low .ensures, ret w32 (high .result) (high .ok) ∙ high .ensures) at
+    (step-end (loop .inv .0) (loop .i) (past lo hi) (toZ w32 (loop .x)) (toZ w32 (loop .y)) (loop .bad) (loop .inv .1 .1) (c .loop-test .left))
 
 pub step-too-long-spec : {M : Type 1} → statement M
 step-too-long-spec =
@@ -90,14 +129,17 @@ step-too-long-spec =
     Inv-loop
     μ-loop
     list-len-requires
+    least-step-requires
+    greatest-step-requires
     loop-holds
     mul-nx
     shared-slice-copy-out-nx
     mul-ny
     shared-slice-copy-out-ny
-    steps-past-requires
-    returns
+    sub-is-step-in
+    sub-is-step-in-2
+    is-step-in-requires
     add-i
     loop-less
     loop-again
-    returns-2)
+    returns)

@@ -1,86 +1,135 @@
--- What is counted and what the commands left take come to the whole.
+-- The kinds that are counted tell how many bytes there are.
+use borrow.Author.Needs.{needs}
 use mathlib.Core.Path.{_≡_}
-use Prim.Native.Nat.{_+_, _-_, _*_, _≤_, _<_}
+use Prim.Native.Nat.{_≤_}
 use native.Mathlib.Omega.{arith}
 use denote.Ref.{now}
 use lib.IntN.{pos}
-use lib.ListN.{length, drop, getD}
-use Rattle.rules.specs.Lists.{opOf, commands}
+use lib.ListN.{length, take}
+use Rattle.rules.specs.Vocabulary.{count}
+use Rattle.rules.specs.Lists.{commands, written}
+use Rattle.rules.specs.declared.Format.{Format}
+use Rattle.rules.specs.declared.Format.the-variants.{Pes, Pec, Dst, Exp, Jef}
+use Rattle.laws.specs.Arms.{pes-pec}
 use Rattle.laws.specs.Listing.{length-commands}
-use Rattle.encode.specs.Cmds.{lenOf}
-use Rattle.encode.proofs.Lengths.{total, total-is, total-more, total-end}
+use Rattle.encode.specs.Cmds.{cmdOf, kindIn}
+use Rattle.encode.proofs.Lengths.{Told, lengths}
 use Rattle.encode.proofs.stream_len.Statement.{statement}
 use Rattle.encode.proofs.stream_len.Tie as tie
 
-abbrev Inv-loop : tie.InvT-loop
-Inv-loop f xs ys kinds n sum₀ i₀ sum i =
-    (n ≡ length (commands xs ys kinds))
-    × ((sum ≤ 9 * i)
-    × (total f (commands xs ys kinds) ≡ sum + total f (drop i (commands xs ys kinds))))
+list-len-requires : tie.Need-list-len-requires
+list-len-requires c κs = search needs
 
-abbrev μ-loop : tie.MeasureT-loop
-μ-loop f xs ys kinds n sum₀ i₀ sum i = n - i
+-- how many commands there are, and what their kinds tell
+few : (c : tie.After-list-len) → (c .list-len .result ≤ length (now (c .before .before .args .kinds))) × (c .list-len .result ≤ 65535)
+few c = let a = c .before .before .args in omega (arith, length-commands (now (a .xs)) (now (a .ys)) (now (a .kinds)), c .before .before .pre)
 
-list-len-requires : tie.Need-list-len-requires Inv-loop μ-loop
-list-len-requires c κs = tt
-
-loop-holds : tie.Need-loop-holds Inv-loop μ-loop
-loop-holds c = (c .list-len .ensures, (omega arith, omega arith))
-
-shared-slice-read-op-of : tie.Need-shared-slice-read-op-of Inv-loop μ-loop
-shared-slice-read-op-of c =
-    let a = c .before .before .before .before .before .args in
-    omega (arith, length-commands (now (a .xs)) (now (a .ys)) (now (a .kinds)))
-
-op-of-requires : tie.Need-op-of-requires Inv-loop μ-loop
-op-of-requires c κs = tt
-
-cmd-len-requires : tie.Need-cmd-len-requires Inv-loop μ-loop
-cmd-len-requires c κs = tt
-
-add-total : tie.Need-add-total Inv-loop μ-loop
-add-total c =
-    let s = c .before .before .before .before .before .before .before in
-    let a = s .args in
-    omega (arith, length-commands (now (a .xs)) (now (a .ys)) (now (a .kinds)), s .pre, c .cmd-len .ensures .1)
-
-add-i : tie.Need-add-i Inv-loop μ-loop
-add-i c = omega arith
-
-loop-less : tie.Need-loop-less Inv-loop μ-loop
-loop-less c = omega arith
-
-loop-again : tie.Need-loop-again Inv-loop μ-loop
-loop-again c =
-    let head = c .before .before .before .before in
-    let a = head .before .before .before .args in
-    let i = head .loop .i in
-    let l : i < length (commands (now (a .xs)) (now (a .ys)) (now (a .kinds))) = omega arith in
-    let e : c .cmd-len .result ≡ lenOf (a .f) (opOf (getD (now (a .kinds)) i 0)) = rw (← c .before .op-of .ensures) (c .cmd-len .ensures .0) in
-    let more = total-more (a .f) (now (a .xs)) (now (a .ys)) (now (a .kinds)) i l in
-    (head .loop .inv .0, (omega (arith, c .cmd-len .ensures .1), omega (arith, e, more)))
-
-returns : tie.Need-returns Inv-loop μ-loop
-returns c =
-    let head = c .before in
-    let a = head .before .before .before .args in
+told : (c : tie.After-list-len) (f : Format)
+    → (let a = c .before .before .args in
+    let n = c .list-len .result in
+    let kinds = take n (now (a .kinds)) in
     let cs = commands (now (a .xs)) (now (a .ys)) (now (a .kinds)) in
-    let end = total-end (a .f) (now (a .xs)) (now (a .ys)) (now (a .kinds)) (head .loop .i) (omega arith) in
-    omega (arith, total-is (a .f) (pos 0) (pos 0) cs, end)
+    Told f (length (written (cmdOf f) (pos 0) (pos 0) cs)) n (count (kindIn 0 0) kinds) (count (kindIn 1 3) kinds) (count (kindIn 2 2) kinds))
+told c f = let a = c .before .before .args in rw (c .list-len .ensures) (lengths f (pos 0) (pos 0) (now (a .xs)) (now (a .ys)) (now (a .kinds)))
+
+enum-told : tie.Need-enum-told
+enum-told c = search needs
+
+mul-result : tie.Need-mul-result
+mul-result c = omega (arith, few (c .before .before))
+
+kinds-in-requires : tie.Need-kinds-in-requires
+kinds-in-requires c κs = few (c .before .before)
+
+mul-result-2 : tie.Need-mul-result-2
+mul-result-2 c = omega (arith, few (c .before .before .before))
+
+add-result : tie.Need-add-result
+add-result c = omega (arith, few (c .before .before .before))
+
+enum-told-2 : tie.Need-enum-told-2
+enum-told-2 c = search needs
+
+kinds-in-requires-2 : tie.Need-kinds-in-requires-2
+kinds-in-requires-2 c κs = few (c .before .before)
+
+mul-result-3 : tie.Need-mul-result-3
+mul-result-3 c = omega (arith, few (c .before .before .before))
+
+kinds-in-requires-3 : tie.Need-kinds-in-requires-3
+kinds-in-requires-3 c κs = few (c .before .before .before)
+
+mul-result-4 : tie.Need-mul-result-4
+mul-result-4 c = omega (arith, few (c .before .before .before .before))
+
+add-result-2 : tie.Need-add-result-2
+add-result-2 c = omega (arith, few (c .before .before .before .before))
+
+enum-told-3 : tie.Need-enum-told-3
+enum-told-3 c = search needs
+
+mul-result-5 : tie.Need-mul-result-5
+mul-result-5 c = omega (arith, few (c .before .before))
+
+kinds-in-requires-4 : tie.Need-kinds-in-requires-4
+kinds-in-requires-4 c κs = few (c .before .before)
+
+mul-result-6 : tie.Need-mul-result-6
+mul-result-6 c = omega (arith, few (c .before .before .before))
+
+add-result-3 : tie.Need-add-result-3
+add-result-3 c = omega (arith, few (c .before .before .before))
+
+kinds-in-requires-5 : tie.Need-kinds-in-requires-5
+kinds-in-requires-5 c κs = few (c .before .before .before)
+
+mul-result-7 : tie.Need-mul-result-7
+mul-result-7 c = omega (arith, few (c .before .before .before .before))
+
+sub-result : tie.Need-sub-result
+sub-result c = omega (arith, told (c .before .before .before .before) Jef .told)
+
+returns : tie.Need-returns
+returns c =
+    let a = c .before .before .before .args in
+    let cs = commands (now (a .xs)) (now (a .ys)) (now (a .kinds)) in
+    let t = told (c .before) in
+    pes-pec (λ f. 0 ≡ length (written (cmdOf f) (pos 0) (pos 0) cs)) (omega (arith, t Pes .told)) (omega (arith, t Pec .told)) (a .f) (c .match .keys1)
+
+returns-2 : tie.Need-returns-2
+returns-2 c = rw (c .before .enum-told .given .1) (omega (arith, told (c .before .before .before) Dst .told))
+
+returns-3 : tie.Need-returns-3
+returns-3 c = rw (c .before .before .enum-told2 .given .1) (omega (arith, told (c .before .before .before .before) Exp .told))
+
+returns-4 : tie.Need-returns-4
+returns-4 c = rw (c .before .before .enum-told3 .given .1) (omega (arith, told (c .before .before .before .before) Jef .told))
 
 pub stream-len-spec : {M : Type 1} → statement M
 stream-len-spec =
     tie.close
     (tie.spec
-    Inv-loop
-    μ-loop
     list-len-requires
-    loop-holds
-    shared-slice-read-op-of
-    op-of-requires
-    cmd-len-requires
-    add-total
-    add-i
-    loop-less
-    loop-again
-    returns)
+    enum-told
+    mul-result
+    kinds-in-requires
+    mul-result-2
+    add-result
+    enum-told-2
+    kinds-in-requires-2
+    mul-result-3
+    kinds-in-requires-3
+    mul-result-4
+    add-result-2
+    enum-told-3
+    mul-result-5
+    kinds-in-requires-4
+    mul-result-6
+    add-result-3
+    kinds-in-requires-5
+    mul-result-7
+    sub-result
+    returns
+    returns-2
+    returns-3
+    returns-4)

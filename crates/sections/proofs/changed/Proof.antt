@@ -6,11 +6,11 @@ use borrow.Author.Needs.{needs}
 use Rattle.sections.proofs.changed.Statement.{statement}
 use Rattle.sections.proofs.changed.Tie as tie
 
-thread-code-requires : tie.Need-thread-code-requires
-thread-code-requires c κs = search needs
+code-at-requires : tie.Need-code-at-requires
+code-at-requires c κs = search needs
 
-add-t11 : tie.Need-add-t11
-add-t11 c = search needs
+add-t12 : tie.Need-add-t12
+add-t12 c = search needs
 
 returns : tie.Need-returns
 unfolding pesNext
@@ -18,7 +18,7 @@ returns c =
     let s = c .before .before .before .before .args .s in
     let x = ret w32 (s .x) (search (needs, c .struct-told .given)) in
     let y = ret w32 (s .y) (search (needs, c .struct-told .given)) in
-    rw (x, y, c .before .before .if1 .taken, c .before .thread-code .ensures)
+    rw (x, y, c .before .before .if1 .taken, c .before .code-at .ensures)
 
 returns-2 : tie.Need-returns-2
 unfolding pesNext
@@ -29,4 +29,4 @@ returns-2 c =
     rw (x, y, c .before .if1 .left)
 
 pub changed-spec : {M : Type 1} → statement M
-changed-spec = tie.close (tie.spec thread-code-requires add-t11 returns returns-2)
+changed-spec = tie.close (tie.spec code-at-requires add-t12 returns returns-2)

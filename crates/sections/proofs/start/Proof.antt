@@ -4,12 +4,12 @@ use Rattle.rules.specs.Pes.{pesStart}
 use Rattle.sections.proofs.start.Statement.{statement}
 use Rattle.sections.proofs.start.Tie as tie
 
-thread-code-requires : tie.Need-thread-code-requires
-thread-code-requires c κs = search needs
+code-at-requires : tie.Need-code-at-requires
+code-at-requires c κs = search needs
 
 returns : tie.Need-returns
 unfolding pesStart
-returns c = rw (c .thread-code .ensures)
+returns c = rw (c .code-at .ensures)
 
 pub start-spec : {M : Type 1} → statement M
-start-spec = tie.close (tie.spec thread-code-requires returns)
+start-spec = tie.close (tie.spec code-at-requires returns)

@@ -10,41 +10,41 @@ use Rattle.encode.proofs.triples.dst_cmd.Tie as tie
 enum-told : tie.Need-enum-told
 enum-told c = search needs
 
-put-record-requires : tie.Need-put-record-requires
+put-move-requires : tie.Need-put-move-requires
 unfolding dstCmd dstBytes most
-put-record-requires c κs =
-    let s = c .before .before .before .before in
-    rw (toZ-ofZ (s .fits .dx), toZ-ofZ (s .fits .dy)) ((omega arith, (s .pre .0 .x, s .pre .0 .y)), rw (c .before .enum-told .given .1) at (s .pre .1))
+put-move-requires c κs =
+    let s = c .before .before .before .before .before .before in
+    rw (toZ-ofZ (s .fits .dx), toZ-ofZ (s .fits .dy)) ((omega arith, s .pre .0), (s .pre .1 .0, rw (c .before .enum-told .given .1) at (s .pre .1 .1)))
 
 enum-told-2 : tie.Need-enum-told-2
 enum-told-2 c = search needs
 
-put-record-requires-2 : tie.Need-put-record-requires-2
+put-move-requires-2 : tie.Need-put-move-requires-2
 unfolding dstCmd dstBytes most
-put-record-requires-2 c κs =
-    let s = c .before .before .before .before in
-    rw (toZ-ofZ (s .fits .dx), toZ-ofZ (s .fits .dy)) ((omega arith, (s .pre .0 .x, s .pre .0 .y)), rw (c .before .enum-told2 .given .1) at (s .pre .1))
+put-move-requires-2 c κs =
+    let s = c .before .before .before .before .before .before in
+    rw (toZ-ofZ (s .fits .dx), toZ-ofZ (s .fits .dy)) ((omega arith, s .pre .0), (s .pre .1 .0, rw (c .before .enum-told2 .given .1) at (s .pre .1 .1)))
 
 enum-told-3 : tie.Need-enum-told-3
 enum-told-3 c = search needs
 
 put-trim-requires : tie.Need-put-trim-requires
 unfolding dstCmd dstBytes
-put-trim-requires c κs = rw (c .before .enum-told3 .given .1) at (c .before .before .before .before .pre .1)
+put-trim-requires c κs = rw (c .before .enum-told3 .given .1) at (c .before .before .before .before .before .before .pre .1 .1)
 
 enum-told-4 : tie.Need-enum-told-4
 enum-told-4 c = search needs
 
 put3-requires : tie.Need-put3-requires
 unfolding dstCmd
-put3-requires c κs = rw (c .before .enum-told4 .given .1) at (c .before .before .before .before .pre .1)
+put3-requires c κs = rw (c .before .enum-told4 .given .1) at (c .before .before .before .before .before .before .pre .1 .1)
 
 enum-told-5 : tie.Need-enum-told-5
 enum-told-5 c = search needs
 
 put3-requires-2 : tie.Need-put3-requires-2
 unfolding dstCmd
-put3-requires-2 c κs = rw (c .before .enum-told5 .given .1) at (c .before .before .before .before .pre .1)
+put3-requires-2 c κs = rw (c .before .enum-told5 .given .1) at (c .before .before .before .before .before .before .pre .1 .1)
 
 same-length : tie.Need-same-length
 same-length c = search needs
@@ -52,8 +52,8 @@ same-length c = search needs
 returns : tie.Need-returns
 unfolding dstCmd
 returns c =
-    let s = c .before .before .before .before .before .before .before in
-    rw (c .before .before .before .before .enum-told .given .1) (rw (toZ-ofZ (s .fits .dx), toZ-ofZ (s .fits .dy)) at (c .before .before .put-record .ensures))
+    let s = c .before .before .before .before .before .before .before .before .before in
+    rw (c .before .before .before .before .enum-told .given .1) (rw (toZ-ofZ (s .fits .dx), toZ-ofZ (s .fits .dy)) at (c .before .before .put-move .ensures))
 
 same-length-2 : tie.Need-same-length-2
 same-length-2 c = search needs
@@ -61,8 +61,8 @@ same-length-2 c = search needs
 returns-2 : tie.Need-returns-2
 unfolding dstCmd
 returns-2 c =
-    let s = c .before .before .before .before .before .before .before in
-    rw (c .before .before .before .before .enum-told2 .given .1) (rw (toZ-ofZ (s .fits .dx), toZ-ofZ (s .fits .dy)) at (c .before .before .put-record2 .ensures))
+    let s = c .before .before .before .before .before .before .before .before .before in
+    rw (c .before .before .before .before .enum-told2 .given .1) (rw (toZ-ofZ (s .fits .dx), toZ-ofZ (s .fits .dy)) at (c .before .before .put-move2 .ensures))
 
 same-length-3 : tie.Need-same-length-3
 same-length-3 c = search needs
@@ -90,9 +90,9 @@ dst-cmd-spec =
     tie.close
     (tie.spec
     enum-told
-    put-record-requires
+    put-move-requires
     enum-told-2
-    put-record-requires-2
+    put-move-requires-2
     enum-told-3
     put-trim-requires
     enum-told-4

@@ -17,64 +17,67 @@ use Rattle.more.proofs.jef.put_entries.Statement.{statement}
 use Rattle.more.proofs.jef.put_entries.Tie as tie
 
 abbrev Inv-loop : tie.InvT-loop
-Inv-loop threads out₀ at last₀ to₀ i₀ out last to i =
+Inv-loop threads out₀ at chart last₀ to₀ i₀ out last to i =
     (i ≤ length threads)
     × Writing out₀ at (words (jefEntries First (threadsOf threads))) out to (words (jefEntries last (threadsOf (drop i threads))))
 
 abbrev μ-loop : tie.MeasureT-loop
-μ-loop threads out₀ at last₀ to₀ i₀ out last to i = length threads - i
+μ-loop threads out₀ at chart last₀ to₀ i₀ out last to i = length threads - i
+
+jef-threads-requires : tie.Need-jef-threads-requires Inv-loop μ-loop
+jef-threads-requires c κs = tt
 
 loop-holds : tie.Need-loop-holds Inv-loop μ-loop
 loop-holds c =
-    let a = c .before .before .args in
-    (omega arith, writing-start (now (a .out)) (a .at) (words (jefEntries First (threadsOf (now (a .threads))))) (c .before .before .pre))
+    let a = c .before .before .before .args in
+    (omega arith, writing-start (now (a .out)) (a .at) (words (jefEntries First (threadsOf (now (a .threads))))) (c .before .before .before .pre))
 
 add-loop : tie.Need-add-loop Inv-loop μ-loop
-add-loop c = omega (arith, c .before .before .before .good)
+add-loop c = omega (arith, c .before .before .before .before .good)
 
-shared-slice-read-t13 : tie.Need-shared-slice-read-t13 Inv-loop μ-loop
-shared-slice-read-t13 c = omega arith
-
-add-t9 : tie.Need-add-t9 Inv-loop μ-loop
-add-t9 c = omega (arith, c .before .before .before .before .before .good)
-
-shared-slice-read-t15 : tie.Need-shared-slice-read-t15 Inv-loop μ-loop
-shared-slice-read-t15 c = omega arith
+shared-slice-read-t14 : tie.Need-shared-slice-read-t14 Inv-loop μ-loop
+shared-slice-read-t14 c = omega arith
 
 add-t10 : tie.Need-add-t10 Inv-loop μ-loop
 add-t10 c = omega (arith, c .before .before .before .before .before .before .good)
 
-shared-slice-read-t17 : tie.Need-shared-slice-read-t17 Inv-loop μ-loop
-shared-slice-read-t17 c = omega arith
+shared-slice-read-t16 : tie.Need-shared-slice-read-t16 Inv-loop μ-loop
+shared-slice-read-t16 c = omega arith
 
-jef-choice-requires : tie.Need-jef-choice-requires Inv-loop μ-loop
-jef-choice-requires c κs = tt
+add-t11 : tie.Need-add-t11 Inv-loop μ-loop
+add-t11 c = omega (arith, c .before .before .before .before .before .before .before .good)
+
+shared-slice-read-t18 : tie.Need-shared-slice-read-t18 Inv-loop μ-loop
+shared-slice-read-t18 c = omega arith
+
+choice-in-requires : tie.Need-choice-in-requires Inv-loop μ-loop
+choice-in-requires c κs = c .before .before .before .before .before .jef-threads .ensures
 
 cast-put-word : tie.Need-cast-put-word Inv-loop μ-loop
 cast-put-word c =
-    let s = now (c .before .before .before .before .before .before .before .before .before .args .threads) in
+    let s = now (c .before .before .before .before .before .before .before .before .before .before .args .threads) in
     let l = c .before .before .before .before .before .before .loop in
-    let e = c .before .jef-choice in
+    let e = c .before .choice-in in
     omega (arith, e .ensures, jef-choice-in (l .last) (threadAt s (l .i)) .1)
 
 put-word-requires : tie.Need-put-word-requires Inv-loop μ-loop
 put-word-requires c κs =
-    let s = now (c .before .before .before .before .before .before .before .before .before .args .threads) in
+    let s = now (c .before .before .before .before .before .before .before .before .before .before .args .threads) in
     let l = c .before .before .before .before .before .before .loop in
-    let e = c .before .jef-choice in
+    let e = c .before .choice-in in
     omega (arith, writing-room (little 4 (e .result)) _ (l .inv .1) (entries-more (l .last) s (l .i) (c .before .before .before .before .before .loop-test .taken) (e .ensures)), length-little 4 (e .result))
 
 add-i : tie.Need-add-i Inv-loop μ-loop
-add-i c = omega (arith, c .before .before .before .before .before .before .before .before .before .before .before .before .good)
+add-i c = omega (arith, c .before .before .before .before .before .before .before .before .before .before .before .before .before .good)
 
 loop-less : tie.Need-loop-less Inv-loop μ-loop
 loop-less c = omega arith
 
 loop-again : tie.Need-loop-again Inv-loop μ-loop
 loop-again c =
-    let s = now (c .before .before .before .before .before .before .before .before .before .before .before .before .args .threads) in
+    let s = now (c .before .before .before .before .before .before .before .before .before .before .before .before .before .args .threads) in
     let l = c .before .before .before .before .before .before .before .before .before .loop in
-    let e = c .before .before .before .before .jef-choice in
+    let e = c .before .before .before .before .choice-in in
     (omega arith, writing-more {vs = little 4 (e .result)} (l .inv .1) (entries-more (l .last) s (l .i) (c .before .before .before .before .before .before .before .before .loop-test .taken) (e .ensures)) (c .before .before .put-word .ensures))
 
 same-length : tie.Need-same-length Inv-loop μ-loop
@@ -83,7 +86,7 @@ same-length c = c .before .loop .inv .1 .same
 returns : tie.Need-returns Inv-loop μ-loop
 returns c =
     let l = c .before .loop in
-    writing-done (l .inv .1) (entries-none (l .last) (now (c .before .before .before .before .args .threads)) (l .i) (c .loop-test .left))
+    writing-done (l .inv .1) (entries-none (l .last) (now (c .before .before .before .before .before .args .threads)) (l .i) (c .loop-test .left))
 
 pub put-entries-spec : {M : Type 1} → statement M
 put-entries-spec =
@@ -91,14 +94,15 @@ put-entries-spec =
     (tie.spec
     Inv-loop
     μ-loop
+    jef-threads-requires
     loop-holds
     add-loop
-    shared-slice-read-t13
-    add-t9
-    shared-slice-read-t15
+    shared-slice-read-t14
     add-t10
-    shared-slice-read-t17
-    jef-choice-requires
+    shared-slice-read-t16
+    add-t11
+    shared-slice-read-t18
+    choice-in-requires
     cast-put-word
     put-word-requires
     add-i

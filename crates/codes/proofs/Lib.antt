@@ -1,0 +1,2 @@
+-- Lemmas for the entries of threads.
+pub mod Codes
