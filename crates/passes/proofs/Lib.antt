@@ -3,6 +3,7 @@ pub mod Parts
 pub mod Colours
 pub mod Places
 pub mod Turns
+pub mod Stretches
 pub mod Loops
 pub mod Bounds
 pub mod Lent

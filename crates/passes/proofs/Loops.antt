@@ -1,13 +1,13 @@
 -- The two passes over the records of any format: what holds where they begin, in each turn and at the end. Assumes nothing.
-use Prim.Native.Nat.{ℕ, zero, suc, _+_, _-_, _*_, _≤_, _<_}
+use Prim.Native.Nat.{ℕ, suc, _+_, _-_, _*_, _≤_, _<_}
 use mathlib.Core.Path.{_≡_, refl, sym, ap, _∙_}
-use mathlib.Core.List.{List, [], _++_, append-nil}
+use mathlib.Core.List.{List, [], _++_, append-nil, append-assoc}
 use native.Mathlib.Nat.{zero-add}
 use native.Mathlib.Omega.{arith}
 use lib.IntN.{ℤ, pos, natAbs, _+ℤ_}
 use lib.ListN.{length, drop, length-drop, length-append}
 use lib.Seq.{sets, drop-drop}
-use Rattle.rules.specs.Answers.{places, runs, blocks, startOf, runOf, blockOf}
+use Rattle.rules.specs.Answers.{places, runs, blocks, runOf, blockOf}
 use Rattle.rules.specs.Files.{firstOf, filled}
 use Rattle.rules.specs.Records.{Event, recordThen, events}
 use Rattle.rules.specs.declared.Counts.{Counts}
@@ -15,42 +15,38 @@ use Rattle.rules.specs.declared.Format.{Format}
 use Rattle.rules.specs.declared.Record.{Record}
 use Rattle.rules.specs.declared.Record.the-variants.{StitchBy, JumpBy, ChangeBy, Finish}
 use Rattle.rules.specs.declared.Verdict.the-variants.{Accepted}
-use Rattle.laws.specs.Buffers.{Writing, writing-start, writing-room, writing-more, writing-done, put-front}
+use Rattle.laws.specs.Buffers.{sets-append, Writing, writing-start, writing-room, writing-more, writing-done, put-front}
 use Rattle.laws.specs.Ints.{abs-add}
 use Rattle.laws.specs.Reading.{events-step, read-finish}
 use Rattle.records.proofs.Formats.{Near, near, inside}
-use Rattle.records.proofs.Plains.{plain-is}
 use Rattle.records.specs.Fields.{lenOf, dxOf, dyOf}
-use Rattle.records.specs.Plain.{plainLen}
-use Rattle.passes.specs.Builders.{origin, followed, finished, placeAfter, placesBy, runsBy, blocksBy, Counted, Small, Reach, Holds}
+use Rattle.passes.specs.Builders.{origin, sewn, opening, startBy, followed, finished, placeAfter, placesBy, runsBy, blocksBy, Counted, Small, Reach, Holds}
+use Rattle.passes.specs.Stretches.{Stitches, none, more, reached, placesOf, Drawn, Short}
 use Rattle.passes.specs.Told.{placesIn, runsIn, blocksIn, Told, Fits}
 use Rattle.passes.specs.declared.builder.Builder.{Builder}
-use Rattle.passes.proofs.Parts.{run-cells, block-cells}
+use Rattle.passes.specs.declared.stretch.Stretch.{Stretch}
+use Rattle.passes.proofs.Parts.{in-run, run-cells, block-cells}
+use Rattle.passes.proofs.Stretches.{here, span, reached-within, sewn-next, sewn-cells, stretch-cells, start-late}
 use Rattle.passes.proofs.Turns.{placesLeft, runsLeft, blocksLeft, eventsAfter, moved, places-next, runs-next, blocks-next, points-by, runs-by, blocks-by, left-anywhere, any-colours, Bounded, bounded-next}
-
--- the code's test that a number is not 0
-pub above : (n : ℕ) → (n ≡ 0 → ⊥) → 0 < n
-above zero h = absurd (h refl)
-above (suc n) h = omega arith
 
 module _ (f : Format) (bytes : List ℕ) where
   -- the events from `at` on
-  abbrev from : ℕ → List Event
-  from at = events (firstOf f) (drop at bytes)
+  abbrev eventsFrom : ℕ → List Event
+  eventsFrom at = events (firstOf f) (drop at bytes)
 
   -- the pass that writes: P₀ R₀ B₀ are the buffers at first, P R B the buffers now; c gives a block's colour
   pub record Filling (c : ℕ → ℕ) (P₀ : List ℤ) (R₀ B₀ : List ℕ) (P : List ℤ) (R B : List ℕ) (b : Builder) (at : ℕ) : Type 0 where
-    pub places : Writing P₀ 0 (placesIn (firstOf f) bytes) P (2 * b .points) (placesLeft b (from at))
-    pub runs : Writing R₀ 0 (runsIn (firstOf f) bytes) R (b .runs) (runsLeft b (from at))
-    pub blocks : Writing B₀ 0 (blocksIn c (firstOf f) bytes) B (3 * b .blocks) (blocksLeft c b (from at))
+    pub places : Writing P₀ 0 (placesIn (firstOf f) bytes) P (2 * b .points) (placesLeft b (eventsFrom at))
+    pub runs : Writing R₀ 0 (runsIn (firstOf f) bytes) R (b .runs) (runsLeft b (eventsFrom at))
+    pub blocks : Writing B₀ 0 (blocksIn c (firstOf f) bytes) B (3 * b .blocks) (blocksLeft c b (eventsFrom at))
     pub bounded : Bounded b at
     pub within : at ≤ length bytes
 
   -- the pass that counts
   pub record Counting (b : Builder) (at : ℕ) : Type 0 where
-    pub places : 2 * b .points + length (placesLeft b (from at)) ≡ length (placesIn (firstOf f) bytes)
-    pub runs : b .runs + length (runsLeft b (from at)) ≡ length (runsIn (firstOf f) bytes)
-    pub blocks : (c : ℕ → ℕ) → 3 * b .blocks + length (blocksLeft c b (from at)) ≡ length (blocksIn c (firstOf f) bytes)
+    pub places : 2 * b .points + length (placesLeft b (eventsFrom at)) ≡ length (placesIn (firstOf f) bytes)
+    pub runs : b .runs + length (runsLeft b (eventsFrom at)) ≡ length (runsIn (firstOf f) bytes)
+    pub blocks : (c : ℕ → ℕ) → 3 * b .blocks + length (blocksLeft c b (eventsFrom at)) ≡ length (blocksIn c (firstOf f) bytes)
     pub bounded : Bounded b at
     pub within : at ≤ length bytes
 
@@ -74,7 +70,7 @@ module _ (f : Format) (bytes : List ℕ) where
   no-record (ChangeBy dx dy n) h = absurd (omega (arith, h .fair, h .len))
   no-record Finish h = refl
 
-  pub ended : (at : ℕ) → length bytes ≤ at → from at ≡ []
+  pub ended : (at : ℕ) → length bytes ≤ at → eventsFrom at ≡ []
   ended at h =
       let z : length (drop at bytes) ≡ 0 = length-drop at bytes ∙ omega arith in
       read-finish (firstOf f) (inside f) (drop at bytes) (no-record (firstOf f (drop at bytes)) (rw z at (near f (drop at bytes))))
@@ -85,24 +81,19 @@ module _ (f : Format) (bytes : List ℕ) where
   pub fewer-blocks : {b q : Builder} {at : ℕ} → Bounded b at → q ≡ finished b → q .blocks ≤ q .runs
   fewer-blocks w e = rw e (w .fewer)
 
-  -- the plain stitch at `at` is the record there
-  pub plain-here : (at : ℕ) {n : ℕ} → n ≡ plainLen f (drop at bytes) → 0 < n
-      → StitchBy (dxOf (firstOf f (drop at bytes))) (dyOf (firstOf f (drop at bytes))) n ≡ firstOf f (drop at bytes)
-  plain-here at en h = rw en (sym (plain-is f (drop at bytes) (rw en at h)))
-
   -- ---- one turn: r is the record at `at`
 
   module _ (at : ℕ) {r : Record} (e : r ≡ firstOf f (drop at bytes)) where
     this : Near r (length (drop at bytes))
-    this = rw e (near f (drop at bytes))
+    this = here f bytes at e
 
-    behind : (s : Record) → eventsAfter s (λ n. from (at + n)) ≡ from (placeAfter s at (length bytes))
+    behind : (s : Record) → eventsAfter s (λ n. eventsFrom (at + n)) ≡ eventsFrom (placeAfter s at (length bytes))
     behind (StitchBy dx dy n) = refl
     behind (JumpBy dx dy n) = refl
     behind (ChangeBy dx dy n) = refl
     behind Finish = sym (ended (length bytes) (omega arith))
 
-    now-then : from at ≡ recordThen r (λ n. from (at + n))
+    now-then : eventsFrom at ≡ recordThen r (λ n. eventsFrom (at + n))
     now-then = rw (e, events-step (firstOf f) (inside f) (drop at bytes)) (simp drop-drop)
 
     -- the record ends in the bytes, and the measure of the loop falls
@@ -115,14 +106,15 @@ module _ (f : Format) (bytes : List ℕ) where
     next-within (ChangeBy dx dy n) h = h
     next-within Finish h = omega arith
 
-    next-less : (s : Record) → Near s (length (drop at bytes)) → at < length bytes → length bytes - placeAfter s at (length bytes) < length bytes - at
-    next-less (StitchBy dx dy n) h l = omega (arith, h .fair)
-    next-less (JumpBy dx dy n) h l = omega (arith, h .fair)
-    next-less (ChangeBy dx dy n) h l = omega (arith, h .fair)
-    next-less Finish h l = omega arith
+    next-less : (s : Record) → Near s (length (drop at bytes)) → (from : ℕ) → from ≤ at → from < length bytes → length bytes - placeAfter s at (length bytes) < length bytes - from
+    next-less (StitchBy dx dy n) h from i l = omega (arith, h .fair, h .len, length-drop at bytes)
+    next-less (JumpBy dx dy n) h from i l = omega (arith, h .fair, h .len, length-drop at bytes)
+    next-less (ChangeBy dx dy n) h from i l = omega (arith, h .fair, h .len, length-drop at bytes)
+    next-less Finish h from i l = omega arith
 
-    pub less : {n : ℕ} → n ≡ placeAfter r at (length bytes) → at < length bytes → length bytes - n < length bytes - at
-    less en l = rw en (next-less r this l)
+    -- the turn began at `from`
+    pub less : {n : ℕ} (from : ℕ) → n ≡ placeAfter r at (length bytes) → from ≤ at → from < length bytes → length bytes - n < length bytes - from
+    less from en i l = rw en (next-less r this from i l)
 
     module _ {b : Builder} (w : Bounded b at) (i : at ≤ length bytes) where
       pub reach : length bytes ≤ 2097152 → Reach b (dxOf r) (dyOf r)
@@ -136,14 +128,14 @@ module _ (f : Format) (bytes : List ℕ) where
           (omega (arith, w, this .dx, abs-add (b .x) (dxOf r))) (omega (arith, w, this .dy, abs-add (b .y) (dyOf r)))
 
     module _ (b : Builder) where
-      to-places : placesLeft b (from at) ≡ placesBy b r ++ placesLeft (moved b r) (from (placeAfter r at (length bytes)))
-      to-places = ap (placesLeft b) now-then ∙ places-next b r (λ n. from (at + n)) ∙ rw (behind r)
+      to-places : placesLeft b (eventsFrom at) ≡ placesBy b r ++ placesLeft (moved b r) (eventsFrom (placeAfter r at (length bytes)))
+      to-places = ap (placesLeft b) now-then ∙ places-next b r (λ n. eventsFrom (at + n)) ∙ rw (behind r)
 
-      to-runs : (x y : ℤ) → runsLeft b (from at) ≡ runsBy b r ++ runsLeft (followed b r x y) (from (placeAfter r at (length bytes)))
-      to-runs x y = ap (runsLeft b) now-then ∙ runs-next b r x y (λ n. from (at + n)) ∙ rw (behind r)
+      to-runs : (x y : ℤ) → runsLeft b (eventsFrom at) ≡ runsBy b r ++ runsLeft (followed b r x y) (eventsFrom (placeAfter r at (length bytes)))
+      to-runs x y = ap (runsLeft b) now-then ∙ runs-next b r x y (λ n. eventsFrom (at + n)) ∙ rw (behind r)
 
-      to-blocks : (c : ℕ → ℕ) (x y : ℤ) → blocksLeft c b (from at) ≡ blocksBy c b r ++ blocksLeft c (followed b r x y) (from (placeAfter r at (length bytes)))
-      to-blocks c x y = ap (blocksLeft c b) now-then ∙ blocks-next b c r x y (λ n. from (at + n)) ∙ rw (behind r)
+      to-blocks : (c : ℕ → ℕ) (x y : ℤ) → blocksLeft c b (eventsFrom at) ≡ blocksBy c b r ++ blocksLeft c (followed b r x y) (eventsFrom (placeAfter r at (length bytes)))
+      to-blocks c x y = ap (blocksLeft c b) now-then ∙ blocks-next b c r x y (λ n. eventsFrom (at + n)) ∙ rw (behind r)
 
       module _ {c : ℕ → ℕ} {P₀ : List ℤ} {R₀ B₀ : List ℕ} {P : List ℤ} {R B : List ℕ} (g : Filling c P₀ R₀ B₀ P R B b at) where
         pub holds : Holds c b r (length P) (length R) (length B)
@@ -180,7 +172,7 @@ module _ (f : Format) (bytes : List ℕ) where
                 g .places,
                 points-by b r (pos 0) (pos 0),
                 simp length-append at (ap length to-places),
-                left-anywhere b r (b .x +ℤ dxOf r) (b .y +ℤ dyOf r) (pos 0) (pos 0) (from (placeAfter r at (length bytes))),
+                left-anywhere b r (b .x +ℤ dxOf r) (b .y +ℤ dyOf r) (pos 0) (pos 0) (eventsFrom (placeAfter r at (length bytes))),
               );
           runs = omega (arith, g .runs, runs-by b r (pos 0) (pos 0), simp length-append at (ap length (to-runs (pos 0) (pos 0))));
           blocks = λ c. omega (arith, g .blocks c, blocks-by b c r (pos 0) (pos 0), simp length-append at (ap length (to-blocks c (pos 0) (pos 0))));
@@ -188,10 +180,58 @@ module _ (f : Format) (bytes : List ℕ) where
           within = next-within r (stays (g .within));
         })
 
-  -- the room of a stitch
-  pub stitch-room : (at : ℕ) {dx dy : ℤ} {n : ℕ} → StitchBy dx dy n ≡ firstOf f (drop at bytes) → {b : Builder} {c : ℕ → ℕ} {P₀ : List ℤ} {R₀ B₀ : List ℕ} {P : List ℤ} {R B : List ℕ}
-      → Filling c P₀ R₀ B₀ P R B b at → 2 * b .points + (length (startOf (b .run) (b .x) (b .y)) + 2) ≤ length P
-  stitch-room at e {b} g = simp length-append at (holds at e b g .places)
+  -- ---- the stitches of a stretch, one after the other
+
+  pub counting-on : {b : Builder} {from at k : ℕ} → Counting b from → Stitches f bytes from at k → Counting (sewn k b (pos 0) (pos 0)) at
+  counting-on g none = g
+  counting-on {b} g (more {at = at} {k = k} s e) = counting-again at e (sewn k b (pos 0) (pos 0)) (counting-on g s) (sewn-next k b (pos 0) (pos 0) (pos 0) (pos 0)) refl
+
+  module _ {b : Builder} {from : ℕ} {c : ℕ → ℕ} {P₀ : List ℤ} {R₀ B₀ : List ℕ} {P : List ℤ} {R B : List ℕ} (g : Filling c P₀ R₀ B₀ P R B b from) where
+    -- what is written is counted
+    counted : Counting b from
+    counted = record {
+      places = omega (arith, g .places .place);
+      runs = omega (arith, g .runs .place);
+      blocks = λ c′. omega (arith, g .blocks .place, any-colours c c′ (b .block) (b .begun) (b .run) (eventsFrom from), any-colours c c′ 0 0 0 (events (firstOf f) bytes));
+      bounded = g .bounded;
+      within = g .within;
+    }
+
+    -- room for the places of any stretch that stands here, and for the place before it
+    pub stretch-room : (at k : ℕ) → Stitches f bytes from at (suc k) → 2 * (b .points + opening (b .run) + suc k) ≤ length P
+    stretch-room at k s = omega (arith, counting-on counted s .places, g .places .room, g .places .same)
+
+    pub start-room : {at k : ℕ} → Stitches f bytes from at k → 2 * b .points + length (startBy k b) ≤ length P
+    start-room {k = k} s = omega (arith, counting-on counted s .places, g .places .room, g .places .same, sewn-cells k b (pos 0) (pos 0))
+
+    filling-on : {at k : ℕ} (s : Stitches f bytes from at k)
+        → Filling c P₀ R₀ B₀ (sets P (2 * b .points) (startBy k b ++ placesOf (b .x) (b .y) s)) R B (sewn k b (reached dxOf (b .x) s) (reached dyOf (b .y) s)) at
+    unfolding reached placesOf
+    filling-on none = g
+    filling-on (more none e) = filling-again from e b g (sewn-next 0 b _ _ (b .x) (b .y)) refl refl refl refl
+    filling-on (more {at = at} (more {k = k} s e′) e) =
+        let x = reached dxOf (b .x) (more s e′) in
+        let y = reached dyOf (b .y) (more s e′) in
+        let q = sewn (suc k) b x y in
+        let w = in-run (q .run) (λ h. omega arith) in
+        let ps = placesOf (b .x) (b .y) (more s e′) in
+        filling-again at e q (filling-on (more s e′)) (sewn-next (suc k) b _ _ x y)
+        (rw (w .start x y, ← append-assoc (startBy (suc k) b) ps, sets-append P (2 * b .points) (startBy (suc k) b ++ ps), stretch-cells b (b .x) (b .y) x y (more s e′))) refl refl refl
+
+    -- by what the calls gave: t is what `draw_plain` answered
+    module _ {t : Stretch} {P₁ : List ℤ} (d : Drawn f bytes from (b .x) (b .y) (b .points + opening (b .run)) P P₁ t) where
+      pub short : length bytes ≤ 2097152 → Short t
+      short l =
+          let w = span f bytes (d .stitches) (g .within) in
+          record {
+            x = rw (d .tx) (omega (arith, w, reached-within f bytes dxOf (λ r n m. m .dx) (b .x) (g .bounded .x) (d .stitches)));
+            y = rw (d .ty) (omega (arith, w, reached-within f bytes dyOf (λ r n m. m .dy) (b .y) (g .bounded .y) (d .stitches)));
+            count = omega (arith, w);
+          }
+
+      pub stretch-on : {q : Builder} {P₂ : List ℤ} → q ≡ sewn (t .count) b (t .x) (t .y) → P₂ ≡ sets P₁ (2 * b .points) (startBy (t .count) b)
+          → Filling c P₀ R₀ B₀ P₂ R B q (t .at)
+      stretch-on eq eP = rw (eq, eP, d .stored, d .tx, d .ty, start-late P b (b .x) (b .y) (d .stitches)) (filling-on (d .stitches))
 
   -- ---- at the end
 
@@ -213,24 +253,14 @@ module _ (f : Format) (bytes : List ℕ) where
     counting-done g e t = counting-end g (rw e at t)
 
     module _ {c : ℕ → ℕ} {P₀ : List ℤ} {R₀ B₀ : List ℕ} {P : List ℤ} {R B : List ℕ} (g : Filling c P₀ R₀ B₀ P R B b at) where
-      -- what is written is counted
-      counted : Counting b at
-      counted = record {
-        places = omega (arith, g .places .place);
-        runs = omega (arith, g .runs .place);
-        blocks = λ c′. omega (arith, g .blocks .place, any-colours c c′ (b .block) (b .begun) (b .run) (from at), any-colours c c′ 0 0 0 (events (firstOf f) bytes));
-        bounded = g .bounded;
-        within = g .within;
-      }
-
       pub filling-done : {q : Builder} {k : Counts} → q ≡ finished b → Counted q k → Told (firstOf f) bytes k
-      filling-done e t = counting-done counted e t
+      filling-done e t = counting-done (counted g) e t
 
-      last-run : runsLeft b (from at) ≡ runOf (b .run) ++ []
+      last-run : runsLeft b (eventsFrom at) ≡ runOf (b .run) ++ []
       unfolding runs
       last-run = rw (ended at h) (sym (append-nil (runOf (b .run))))
 
-      last-block : blocksLeft c b (from at) ≡ blockOf c (b .block) (b .begun) ++ []
+      last-block : blocksLeft c b (eventsFrom at) ≡ blockOf c (b .block) (b .begun) ++ []
       unfolding blocks
       last-block = rw (ended at h) (sym (append-nil (blockOf c (b .block) (b .begun))))
 

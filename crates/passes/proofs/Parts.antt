@@ -7,7 +7,7 @@ use native.Mathlib.Omega.{arith}
 use lib.IntN.{ℤ}
 use lib.ListN.{length}
 use Rattle.rules.specs.Answers.{startOf, runOf, blockOf, pointsAfter, begunAfter}
-use Rattle.passes.specs.Builders.{some, added}
+use Rattle.passes.specs.Builders.{some, added, opening}
 
 -- a run is open: it has n points
 pub record InRun (n : ℕ) : Type 0 where
@@ -17,11 +17,12 @@ pub record InRun (n : ℕ) : Type 0 where
   pub run : runOf n ≡ n ∷ []
   pub one : some n ≡ 1
   pub adds : added n ≡ 1
+  pub opens : opening n ≡ 0
 
 pub in-run : (n : ℕ) → (n ≡ 0 → ⊥) → InRun n
 unfolding pointsAfter begunAfter startOf runOf
 in-run zero h = absurd (h refl)
-in-run (suc n) h = record { after = sym (add-one (suc n)); begun = λ m. refl; start = λ x y. refl; run = refl; one = refl; adds = refl }
+in-run (suc n) h = record { after = sym (add-one (suc n)); begun = λ m. refl; start = λ x y. refl; run = refl; one = refl; adds = refl; opens = refl }
 
 -- a block of m runs
 pub listed : (c : ℕ → ℕ) (k m : ℕ) → (m ≡ 0 → ⊥) → blockOf c k m ≡ k ∷ c k ∷ m ∷ []
@@ -49,6 +50,18 @@ pub added-after : (n : ℕ) → added (pointsAfter n) ≡ 1
 unfolding pointsAfter
 added-after zero = refl
 added-after (suc n) = refl
+
+-- a stitch adds a point, and one more where it opens a run
+pub record Opening (n : ℕ) : Type 0 where
+  pub least : opening n ≤ 1
+  pub after : pointsAfter n ≡ n + 1 + opening n
+  pub begun : (m : ℕ) → begunAfter n m ≡ m + opening n
+  pub adds : (m : ℕ) → m + added n ≡ m + 1 + opening n
+
+pub may-open : (n : ℕ) → Opening n
+unfolding pointsAfter begunAfter
+may-open zero = record { least = omega arith; after = refl; begun = λ m. omega arith; adds = λ m. omega arith }
+may-open (suc n) = record { least = omega arith; after = omega arith; begun = λ m. omega arith; adds = λ m. omega arith }
 
 -- how far one stitch can take the counts, with n points in the open run and m runs begun
 pub record Sizes (n m : ℕ) : Type 0 where

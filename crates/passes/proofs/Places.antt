@@ -14,6 +14,14 @@ fits z h = fit w32 z (omega (arith, mag-is z, abs-is z))
 pub kept : (z : ℤ) → natAbs z < 2 ^ 31 → toZ w32 (ofZ w32 z) ≡ z
 kept z h = toZ-ofZ (fits z h)
 
+-- a step d from u that stays in an i32
+pub record Step (u d : ℤ) : Type 0 where
+  pub sum : natAbs u + natAbs d < 2 ^ 31
+  pub same : toZ w32 (ofZ w32 d) ≡ d
+
+pub step : (u d : ℤ) → natAbs u + natAbs d < 2 ^ 31 → Step u d
+step u d h = record { sum = h; same = kept d (omega arith) }
+
 -- a place and the step from it
 pub reached : (a d : ℤ) → natAbs a + natAbs d < 2 ^ 31 → toZ w32 (ofZ w32 (a +ℤ d)) ≡ a +ℤ d
 reached a d h = kept (a +ℤ d) (omega (arith, abs-add a d))

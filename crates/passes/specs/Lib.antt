@@ -1,3 +1,4 @@
 pub mod Builders
 pub mod Colour
 pub mod Told
+pub mod Stretches

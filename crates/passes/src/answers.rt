@@ -1,13 +1,15 @@
 // What goes into the three buffers, each cell once and in order.
 use crate::builder::Builder;
+use crate::builder::after_stitches;
 use crate::builder::color_change;
 use crate::builder::dx_of;
 use crate::builder::dy_of;
 use crate::builder::jump;
+use crate::builder::opens;
 use crate::builder::stitch;
 use crate::builder::sum;
 use crate::colors::color_of;
-use records::plain::Step;
+use crate::stretch::Stretch;
 use rules::Record;
 ghost use mathlib.Core.Path.{_≡_};
 ghost use mathlib.Core.List.{[], _∷_, _++_};
@@ -17,11 +19,12 @@ ghost use lib.ListN.{length};
 ghost use lib.Seq.{sets};
 ghost use Rattle.rules.specs.Answers.{startOf, runOf, blockOf};
 ghost use Rattle.records.specs.Fields.{dxOf, dyOf};
-ghost use Rattle.passes.specs.Builders.{Small, Reach, stitched, followed, placesBy, runsBy, blocksBy, Holds};
+ghost use Rattle.passes.specs.Builders.{Small, Reach, sewn, startBy, followed, placesBy, runsBy, blocksBy, Holds};
 ghost use Rattle.passes.specs.Colour.{colourIn};
+ghost use Rattle.passes.specs.Stretches.{Short};
 
 // Point i of all points.
-fn put_point(places: &mut [i32], i: u32, x: i32, y: i32)
+pub fn put_point(places: &mut [i32], i: u32, x: i32, y: i32)
     requires { ⌜ 2 * i + 2 ≤ length (now places) ⌝ }
     ensures { λ _. ⌜ now (places .exit) ≡ sets (now (places .entry)) (2 * i) (x ∷ y ∷ []) ⌝ }
 {
@@ -30,18 +33,28 @@ fn put_point(places: &mut [i32], i: u32, x: i32, y: i32)
     places[at + 1] = y;
 }
 
+// The place that the first of n stitches leaves, where it opens a run.
+fn put_start(b: Builder, n: u32, places: &mut [i32])
+    requires { ⌜ 2 * b .points + length (startBy n b) ≤ length (now places) ⌝ }
+    requires { ⌜ Small b ⌝ }
+    ensures { λ _. ⌜ now (places .exit) ≡ sets (now (places .entry)) (2 * b .points) (startBy n b) ⌝ }
+{
+    if n == 0 {
+        return;
+    }
+    if b.run == 0 {
+        put_point(places, b.points, b.x, b.y);
+    }
+}
+
 // The points of a stitch to (x, y): the place it leaves too, where it opens a run.
 fn put_stitch(b: Builder, x: i32, y: i32, places: &mut [i32])
     requires { ⌜ 2 * b .points + (length (startOf (b .run) (b .x) (b .y)) + 2) ≤ length (now places) ⌝ }
     requires { ⌜ Small b ⌝ }
     ensures { λ _. ⌜ now (places .exit) ≡ sets (now (places .entry)) (2 * b .points) (startOf (b .run) (b .x) (b .y) ++ x ∷ y ∷ []) ⌝ }
 {
-    if b.run == 0 {
-        put_point(places, b.points, b.x, b.y);
-        put_point(places, b.points + 1, x, y);
-        return;
-    }
-    put_point(places, b.points, x, y);
+    put_start(b, 1, places);
+    put_point(places, b.points + opens(b.run), x, y);
 }
 
 // The open run, if there is one.
@@ -70,18 +83,16 @@ fn put_block(b: Builder, colors: &[u32], blocks: &mut [u32])
     blocks[at + 2] = b.begun;
 }
 
-// A plain stitch, and the builder after it.
-pub fn draw(b: Builder, s: Step, places: &mut [i32]) -> Builder
+// Plain stitches whose places are put: puts the place before them, where they open a run, and gives the builder after them.
+pub fn after_stretch(b: Builder, k: Stretch, places: &mut [i32]) -> Builder
     requires { ⌜ Small b ⌝ }
-    requires { ⌜ Reach b (s .dx) (s .dy) ⌝ }
-    requires { ⌜ 2 * b .points + (length (startOf (b .run) (b .x) (b .y)) + 2) ≤ length (now places) ⌝ }
-    ensures { λ q. ⌜ q ≡ stitched b (b .x +ℤ s .dx) (b .y +ℤ s .dy) ⌝ }
-    ensures { λ _. ⌜ now (places .exit) ≡ sets (now (places .entry)) (2 * b .points) (startOf (b .run) (b .x) (b .y) ++ (b .x +ℤ s .dx) ∷ (b .y +ℤ s .dy) ∷ []) ⌝ }
+    requires { ⌜ Short k ⌝ }
+    requires { ⌜ 2 * b .points + length (startBy (k .count) b) ≤ length (now places) ⌝ }
+    ensures { λ q. ⌜ q ≡ sewn (k .count) b (k .x) (k .y) ⌝ }
+    ensures { λ _. ⌜ now (places .exit) ≡ sets (now (places .entry)) (2 * b .points) (startBy (k .count) b) ⌝ }
 {
-    let x = sum(b.x, s.dx);
-    let y = sum(b.y, s.dy);
-    put_stitch(b, x, y, places);
-    stitch(b, x, y)
+    put_start(b, k.count, places);
+    after_stitches(b, k.count, k.x, k.y)
 }
 
 // The run and the block that are open when nothing more comes.

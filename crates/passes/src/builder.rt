@@ -5,7 +5,7 @@ ghost use mathlib.Core.Path.{_≡_};
 ghost use Prim.Native.Nat.{_+_, _^_, _<_, _≤_};
 ghost use lib.IntN.{natAbs, _+ℤ_};
 ghost use Rattle.records.specs.Fields.{lenOf, dxOf, dyOf};
-ghost use Rattle.passes.specs.Builders.{Small, Counted, origin, stitched, jumped, changed, followed, finished, some, placeAfter};
+ghost use Rattle.passes.specs.Builders.{Small, Counted, origin, stitched, jumped, changed, followed, finished, some, opening, sewn, placeAfter};
 
 // The place; the points of the open run, 0 where none is open; the number of the block and the runs begun in it; and all points,
 // ended runs and listed blocks so far. No two neighbours are both left alone by a stitch, or by a jump: the compiler would keep
@@ -44,33 +44,44 @@ pub fn sum(a: i32, b: i32) -> i32
     a + b
 }
 
-// The builder after a stitch to (x, y); with no run open the stitch opens one, of two points.
+// 1 where the next stitch opens a run: the open one has n points, 0 where there is none.
+pub fn opens(n: u32) -> u32
+    ensures { λ r. ⌜ r ≡ opening n ⌝ }
+{
+    if n == 0 {
+        return 1;
+    }
+    0
+}
+
+// The builder after n stitches, the last to (x, y). The first opens a run, of two points, if none is open.
+pub fn after_stitches(b: Builder, n: u32, x: i32, y: i32) -> Builder
+    requires { ⌜ Small b ⌝ }
+    requires { ⌜ n < 2 ^ 31 ⌝ }
+    ensures { λ r. ⌜ r ≡ sewn n b x y ⌝ }
+{
+    if n == 0 {
+        return b;
+    }
+    let o = opens(b.run);
+    Builder {
+        x,
+        y,
+        run: b.run + n + o,
+        block: b.block,
+        begun: b.begun + o,
+        points: b.points + n + o,
+        runs: b.runs,
+        blocks: b.blocks,
+    }
+}
+
+// The same of one stitch.
 pub fn after_stitch(b: Builder, x: i32, y: i32) -> Builder
     requires { ⌜ Small b ⌝ }
     ensures { λ r. ⌜ r ≡ stitched b x y ⌝ }
 {
-    if b.run == 0 {
-        return Builder {
-            x,
-            y,
-            run: 2,
-            block: b.block,
-            begun: b.begun + 1,
-            points: b.points + 2,
-            runs: b.runs,
-            blocks: b.blocks,
-        };
-    }
-    Builder {
-        x,
-        y,
-        run: b.run + 1,
-        block: b.block,
-        begun: b.begun,
-        points: b.points + 1,
-        runs: b.runs,
-        blocks: b.blocks,
-    }
+    after_stitches(b, 1, x, y)
 }
 
 // 1 for a run that is open, or a block with runs.

@@ -2,18 +2,20 @@
 pub mod answers;
 pub mod builder;
 pub mod colors;
+pub mod stretch;
 
+use crate::answers::after_stretch;
 use crate::answers::close;
-use crate::answers::draw;
 use crate::answers::write;
+use crate::builder::after_stitches;
 use crate::builder::counts;
 use crate::builder::finish;
 use crate::builder::follow;
 use crate::builder::new;
+use crate::builder::opens;
 use crate::builder::place_after;
-use crate::builder::stitch;
-use records::plain::plain_len;
-use records::plain::plain_step;
+use crate::stretch::draw_plain;
+use crate::stretch::skip_plain;
 use records::record_at;
 use rules::Counts;
 use rules::Format;
@@ -26,7 +28,8 @@ ghost use Rattle.rules.specs.declared.Verdict.the-variants.{Accepted};
 ghost use Rattle.passes.specs.Colour.{colourIn};
 ghost use Rattle.passes.specs.Told.{placesIn, runsIn, blocksIn, Told, Fits, Ample};
 
-// How much the answers hold. No place is kept: the builder stays at (0, 0).
+// How much the answers hold. No place is kept: the builder stays at (0, 0). A turn takes the plain stitches that come next, and one
+// record of any kind.
 pub fn count(f: Format, bytes: &[u8]) -> Counts
     requires { ⌜ length (now bytes) ≤ 2097152 ⌝ }
     ensures { λ r. ⌜ Told (firstOf f) (now (bytes .entry)) r ⌝ }
@@ -34,12 +37,9 @@ pub fn count(f: Format, bytes: &[u8]) -> Counts
     let mut b = new();
     let mut at: usize = 0;
     while at < bytes.len() {
-        let n = plain_len(f, bytes, at);
-        if n != 0 {
-            b = stitch(b, 0, 0);
-            at = at + n;
-            continue;
-        }
+        let k = skip_plain(f, bytes, at);
+        b = after_stitches(b, k.count, 0, 0);
+        at = k.at;
         let r = record_at(f, bytes, at);
         b = follow(b, r, 0, 0);
         at = place_after(r, at, bytes.len());
@@ -47,7 +47,7 @@ pub fn count(f: Format, bytes: &[u8]) -> Counts
     counts(finish(b))
 }
 
-// Writes the answers to the front of the buffers.
+// Writes the answers to the front of the buffers. The plain stitches leave a cell for the place before them, where they open a run.
 pub fn fill(
     f: Format,
     bytes: &[u8],
@@ -66,13 +66,9 @@ pub fn fill(
     let mut b = new();
     let mut at: usize = 0;
     while at < bytes.len() {
-        let n = plain_len(f, bytes, at);
-        if n != 0 {
-            let s = plain_step(f, bytes, at);
-            b = draw(b, s, places);
-            at = at + n;
-            continue;
-        }
+        let k = draw_plain(f, bytes, at, b.x, b.y, b.points + opens(b.run), places);
+        b = after_stretch(b, k, places);
+        at = k.at;
         let r = record_at(f, bytes, at);
         b = write(b, r, colors, places, runs, blocks);
         at = place_after(r, at, bytes.len());

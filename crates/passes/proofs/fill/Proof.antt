@@ -1,11 +1,16 @@
 -- The pass that writes, by `Filling` of Loops.
-use Prim.Native.Nat.{_-_}
-use mathlib.Core.Path.{refl, _∙_}
+use Prim.Native.Nat.{_+_, _-_}
+use mathlib.Core.Path.{_∙_}
 use native.Mathlib.Omega.{arith}
 use denote.Ref.{now}
 use lib.ListN.{length}
+use Rattle.passes.specs.Builders.{opening}
 use Rattle.passes.specs.Colour.{colourIn}
-use Rattle.passes.proofs.Loops.{Filling, above, filling-start, small, plain-here, stays, less, reach, holds, stitch-room, filling-again, fewer-blocks, room-run, room-block, all-places, all-runs, all-blocks, filling-done}
+use Rattle.passes.specs.Stretches.{Drawn}
+use Rattle.passes.proofs.Loops.{Filling, filling-start, small, stays, less, reach, holds, filling-again, stretch-room, start-room, short, stretch-on, fewer-blocks, room-run, room-block, all-places, all-runs, all-blocks, filling-done}
+use Rattle.passes.proofs.Parts.{may-open}
+use Rattle.passes.proofs.Places.{kept}
+use Rattle.passes.proofs.Stretches.{span, drawn-length}
 use Rattle.passes.proofs.fill.Statement.{statement}
 use Rattle.passes.proofs.fill.Tie as tie
 
@@ -23,78 +28,78 @@ loop-holds c =
     let a = c .before .before .before .before .before .args in
     rw (c .new .ensures) (filling-start (a .f) (now (a .bytes)) (now (a .places)) (now (a .runs)) (now (a .blocks)) (c .before .before .before .before .before .pre .1))
 
-plain-len-requires : tie.Need-plain-len-requires Inv-loop μ-loop
-plain-len-requires c κs = c .before .loop .inv .within
+opens-requires : tie.Need-opens-requires Inv-loop μ-loop
+opens-requires c κs = tt
 
-plain-step-requires : tie.Need-plain-step-requires Inv-loop μ-loop
-plain-step-requires c κs = rw (c .before .plain-len .ensures) at (above _ (c .if1 .taken))
+add-draw-plain : tie.Need-add-draw-plain Inv-loop μ-loop
+add-draw-plain c = omega (arith, c .before .opens .ensures, may-open (c .before .before .before .loop .b .run) .least, c .before .before .before .loop .inv .bounded, c .before .before .before .loop .inv .within, c .before .before .before .before .before .before .before .before .before .pre .0)
 
-draw-requires : tie.Need-draw-requires Inv-loop μ-loop
-draw-requires c κs =
-    let a = c .before .before .before .before .before .before .before .before .before .before .before .args in
-    let l = c .before .before .before .before .before .loop in
-    let e = plain-here (a .f) (now (a .bytes)) (l .at) (c .before .before .before .plain-len .ensures) (above _ (c .before .before .if1 .taken)) in
-    let m = c .before .plain-step .ensures in (
-      small (a .f) (now (a .bytes)) (l .inv .bounded) (l .inv .within) (c .before .before .before .before .before .before .before .before .before .before .before .pre .0),
-      (rw (m .0, m .1) (reach (a .f) (now (a .bytes)) (l .at) e (l .inv .bounded) (l .inv .within) (c .before .before .before .before .before .before .before .before .before .before .before .pre .0)), stitch-room (a .f) (now (a .bytes)) (l .at) e (l .inv)),
+draw-plain-requires : tie.Need-draw-plain-requires Inv-loop μ-loop
+draw-plain-requires c κs =
+    let s = c .before .before .before .before .before .before .before .before .before .before .before .before in
+    let a = s .args in
+    let g = c .before .before .before .before .before .before .loop .inv in
+    let h = small (a .f) (now (a .bytes)) (g .bounded) (g .within) (s .pre .0) in
+    let b = c .before .before .before .before .before .before .loop .b in
+    (s .pre .0, (g .within, ((rw (kept (b .x) (h .x)) (g .bounded .x), rw (kept (b .y) (h .y)) (g .bounded .y), omega (arith, c .before .before .before .before .opens .ensures, may-open (b .run) .least, g .bounded, g .within, s .pre .0)), rw (c .before .before .before .before .opens .ensures) (stretch-room (a .f) (now (a .bytes)) g))))
+
+-- the plain stitches, with the builder's own place
+drawn : (c : tie.After-draw-plain Inv-loop μ-loop)
+    → (let a = c .before .before .before .before .before .before .before .before .before .before .before .before .before .args in
+    let l = c .before .before .before .before .before .before .before .loop in
+    Drawn (a .f) (now (a .bytes)) (l .at) (l .b .x) (l .b .y) (l .b .points + opening (l .b .run)) (l .places) (c .draw-plain .last .1 .1 .1 .1 .1 .1 .0) (c .draw-plain .result))
+drawn c =
+    let s = c .before .before .before .before .before .before .before .before .before .before .before .before .before in
+    let l = c .before .before .before .before .before .before .before .loop in
+    let h = small (s .args .f) (now (s .args .bytes)) (l .inv .bounded) (l .inv .within) (s .pre .0) in
+    rw (kept (l .b .x) (h .x), kept (l .b .y) (h .y), c .before .before .before .before .before .opens .ensures) at (c .draw-plain .ensures)
+
+after-stretch-requires : tie.Need-after-stretch-requires Inv-loop μ-loop
+after-stretch-requires c κs =
+    let s = c .before .before .before .before .before .before .before .before .before .before .before .before .before .before .before in
+    let g = c .before .before .before .before .before .before .before .before .before .loop .inv in
+    let d = drawn (c .before .before) in (
+      small (s .args .f) (now (s .args .bytes)) (g .bounded) (g .within) (s .pre .0),
+      (short (s .args .f) (now (s .args .bytes)) g d (s .pre .0), omega (arith, start-room (s .args .f) (now (s .args .bytes)) g (d .stitches), drawn-length (s .args .f) (now (s .args .bytes)) _ _ _ _ _ d)),
     )
 
-add-at : tie.Need-add-at Inv-loop μ-loop
-add-at c =
-    let a = c .before .before .before .before .before .before .before .before .before .before .before .before .before .args in
-    let l = c .before .before .before .before .before .before .before .loop in
-    let e = plain-here (a .f) (now (a .bytes)) (l .at) (c .before .before .before .before .before .plain-len .ensures) (above _ (c .before .before .before .before .if1 .taken)) in
-    omega (arith, stays (a .f) (now (a .bytes)) (l .at) e (l .inv .within), c .before .before .before .before .before .before .before .before .before .before .before .before .before .pre .0)
-
-loop-less : tie.Need-loop-less Inv-loop μ-loop
-loop-less c =
-    let a = c .before .before .before .before .before .before .before .before .before .before .before .before .before .args in
-    let l = c .before .before .before .before .before .before .before .loop in
-    let e = plain-here (a .f) (now (a .bytes)) (l .at) (c .before .before .before .before .before .plain-len .ensures) (above _ (c .before .before .before .before .if1 .taken)) in
-    less (a .f) (now (a .bytes)) (l .at) e refl (c .before .before .before .before .before .before .loop-test .taken)
-
-loop-again : tie.Need-loop-again Inv-loop μ-loop
-loop-again c =
-    let a = c .before .before .before .before .before .before .before .before .before .before .before .before .before .args in
-    let l = c .before .before .before .before .before .before .before .loop in
-    let e = plain-here (a .f) (now (a .bytes)) (l .at) (c .before .before .before .before .before .plain-len .ensures) (above _ (c .before .before .before .before .if1 .taken)) in
-    let m = c .before .before .before .plain-step .ensures in
-    let d = c .before .draw .ensures in
-    filling-again (a .f) (now (a .bytes)) (l .at) e _ (l .inv) (rw (d .0, m .0, m .1)) (rw (d .1, m .0, m .1)) refl refl refl
+-- behind them
+stretched : (c : tie.After-after-stretch Inv-loop μ-loop)
+    → (let a = c .before .before .before .before .before .before .before .before .before .before .before .before .before .before .before .before .args in
+    let l = c .before .before .before .before .before .before .before .before .before .before .loop in
+    Filling (a .f) (now (a .bytes)) (colourIn (now (a .colors))) (now (a .places)) (now (a .runs)) (now (a .blocks)) (c .after-stretch .last .1 .1 .0) (l .runs) (l .blocks) (c .after-stretch .result) (c .before .before .before .draw-plain .result .at))
+stretched c =
+    let a = c .before .before .before .before .before .before .before .before .before .before .before .before .before .before .before .before .args in
+    stretch-on (a .f) (now (a .bytes)) (c .before .before .before .before .before .before .before .before .before .before .loop .inv) (drawn (c .before .before .before)) (c .after-stretch .ensures .0) (c .after-stretch .ensures .1)
 
 record-at-requires : tie.Need-record-at-requires Inv-loop μ-loop
 record-at-requires c κs = tt
 
 write-requires : tie.Need-write-requires Inv-loop μ-loop
 write-requires c κs =
-    let a = c .before .before .before .before .before .before .before .before .before .before .before .before .before .args in
-    let l = c .before .before .before .before .before .before .before .loop in
+    let s = c .before .before .before .before .before .before .before .before .before .before .before .before .before .before .before .before .before .before .before .before .before in
+    let g = stretched (c .before .before .before .before .before) in
     let e = c .before .before .before .record-at .ensures in (
-      small (a .f) (now (a .bytes)) (l .inv .bounded) (l .inv .within) (c .before .before .before .before .before .before .before .before .before .before .before .before .before .pre .0),
-      (reach (a .f) (now (a .bytes)) (l .at) e (l .inv .bounded) (l .inv .within) (c .before .before .before .before .before .before .before .before .before .before .before .before .before .pre .0), holds (a .f) (now (a .bytes)) (l .at) e _ (l .inv)),
+      small (s .args .f) (now (s .args .bytes)) (g .bounded) (g .within) (s .pre .0),
+      (reach (s .args .f) (now (s .args .bytes)) _ e (g .bounded) (g .within) (s .pre .0), holds (s .args .f) (now (s .args .bytes)) _ e _ g),
     )
 
 place-after-requires : tie.Need-place-after-requires Inv-loop μ-loop
 place-after-requires c κs =
-    let a = c .before .before .before .before .before .before .before .before .before .before .before .before .before .before .before .before .before .before .before .args in
-    let l = c .before .before .before .before .before .before .before .before .before .before .before .before .before .loop in
-    let e = c .before .before .before .before .before .before .before .before .before .record-at .ensures in
-    omega (arith, stays (a .f) (now (a .bytes)) (l .at) e (l .inv .within), c .before .before .before .before .before .before .before .before .before .before .before .before .before .before .before .before .before .before .before .pre .0)
+    let s = c .before .before .before .before .before .before .before .before .before .before .before .before .before .before .before .before .before .before .before .before .before .before .before .before .before .before .before in
+    omega (arith, stays (s .args .f) (now (s .args .bytes)) _ (c .before .before .before .before .before .before .before .before .before .record-at .ensures) (stretched (c .before .before .before .before .before .before .before .before .before .before .before) .within), s .pre .0)
 
-loop-less-2 : tie.Need-loop-less-2 Inv-loop μ-loop
-loop-less-2 c =
-    let a = c .before .before .before .before .before .before .before .before .before .before .before .before .before .before .before .before .before .before .before .before .args in
-    let l = c .before .before .before .before .before .before .before .before .before .before .before .before .before .before .loop in
-    let e = c .before .before .before .before .before .before .before .before .before .before .record-at .ensures in
-    less (a .f) (now (a .bytes)) (l .at) e (c .place-after .ensures) (c .before .before .before .before .before .before .before .before .before .before .before .before .before .loop-test .taken)
+loop-less : tie.Need-loop-less Inv-loop μ-loop
+loop-less c =
+    let a = c .before .before .before .before .before .before .before .before .before .before .before .before .before .before .before .before .before .before .before .before .before .before .before .before .before .before .before .before .args in
+    let w = span (a .f) (now (a .bytes)) (drawn (c .before .before .before .before .before .before .before .before .before .before .before .before .before .before .before) .stitches) (c .before .before .before .before .before .before .before .before .before .before .before .before .before .before .before .before .before .before .before .before .before .before .loop .inv .within) in
+    less (a .f) (now (a .bytes)) _ (c .before .before .before .before .before .before .before .before .before .before .record-at .ensures) _ (c .place-after .ensures) (omega (arith, w)) (c .before .before .before .before .before .before .before .before .before .before .before .before .before .before .before .before .before .before .before .before .before .loop-test .taken)
 
-loop-again-2 : tie.Need-loop-again-2 Inv-loop μ-loop
-loop-again-2 c =
-    let a = c .before .before .before .before .before .before .before .before .before .before .before .before .before .before .before .before .before .before .before .before .args in
-    let l = c .before .before .before .before .before .before .before .before .before .before .before .before .before .before .loop in
-    let e = c .before .before .before .before .before .before .before .before .before .before .record-at .ensures in
+loop-again : tie.Need-loop-again Inv-loop μ-loop
+loop-again c =
+    let a = c .before .before .before .before .before .before .before .before .before .before .before .before .before .before .before .before .before .before .before .before .before .before .before .before .before .before .before .before .args in
     let w = c .before .before .before .before .before .before .write .ensures in
-    filling-again (a .f) (now (a .bytes)) (l .at) e _ (l .inv) (w .0) (w .1 .0) (w .1 .1 .0) (w .1 .1 .1) (c .place-after .ensures)
+    filling-again (a .f) (now (a .bytes)) _ (c .before .before .before .before .before .before .before .before .before .before .record-at .ensures) _ (stretched (c .before .before .before .before .before .before .before .before .before .before .before .before)) (w .0) (w .1 .0) (w .1 .1 .0) (w .1 .1 .1) (c .place-after .ensures)
 
 close-requires : tie.Need-close-requires Inv-loop μ-loop
 close-requires c κs =
@@ -111,8 +116,7 @@ finish-requires c κs =
 counts-requires : tie.Need-counts-requires Inv-loop μ-loop
 counts-requires c κs =
     let a = c .before .before .before .before .before .before .before .before .before .before .before .before .before .before .before .args in
-    let g = c .before .before .before .before .before .before .before .before .before .loop .inv in
-    fewer-blocks (a .f) (now (a .bytes)) (g .bounded) (c .finish .ensures)
+    fewer-blocks (a .f) (now (a .bytes)) (c .before .before .before .before .before .before .before .before .before .loop .inv .bounded) (c .finish .ensures)
 
 same-length : tie.Need-same-length Inv-loop μ-loop
 same-length c = c .before .before .before .before .before .before .before .before .before .before .loop .inv .places .same
@@ -141,17 +145,15 @@ fill-spec =
     μ-loop
     new-requires
     loop-holds
-    plain-len-requires
-    plain-step-requires
-    draw-requires
-    add-at
-    loop-less
-    loop-again
+    opens-requires
+    add-draw-plain
+    draw-plain-requires
+    after-stretch-requires
     record-at-requires
     write-requires
     place-after-requires
-    loop-less-2
-    loop-again-2
+    loop-less
+    loop-again
     close-requires
     finish-requires
     counts-requires

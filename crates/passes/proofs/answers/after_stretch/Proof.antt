@@ -1,0 +1,24 @@
+-- By what the two calls ensure.
+use Rattle.passes.proofs.Places.{kept}
+use borrow.Author.Needs.{needs}
+use Rattle.passes.proofs.answers.after_stretch.Statement.{statement}
+use Rattle.passes.proofs.answers.after_stretch.Tie as tie
+
+put-start-requires : tie.Need-put-start-requires
+put-start-requires c κs = search needs
+
+after-stitches-requires : tie.Need-after-stitches-requires
+after-stitches-requires c κs = search needs
+
+same-length : tie.Need-same-length
+same-length c = search needs
+
+returns : tie.Need-returns
+returns c =
+    let k = c .before .before .before .before .before .before .args .k in
+    let h = c .before .before .before .before .before .before .pre .1 .0 in
+    (rw (kept (k .x) (h .x), kept (k .y) (h .y)) at (c .after-stitches .ensures), c .before .before .before .before .put-start .ensures)
+
+pub after-stretch-spec : {M : Type 1} → statement M
+after-stretch-spec =
+    tie.close (tie.spec put-start-requires after-stitches-requires same-length returns)

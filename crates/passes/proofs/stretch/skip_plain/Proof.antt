@@ -1,0 +1,61 @@
+-- By the stitches passed so far.
+use Prim.Native.Nat.{suc, _+_, _-_}
+use native.Mathlib.Numerals.{add-one}
+use native.Mathlib.Omega.{arith}
+use denote.Ref.{now}
+use lib.ListN.{length}
+use Rattle.passes.specs.Stretches.{Stitches, none, more}
+use Rattle.passes.proofs.Stretches.{above, plain-here, span}
+use Rattle.passes.proofs.stretch.skip_plain.Statement.{statement}
+use Rattle.passes.proofs.stretch.skip_plain.Tie as tie
+
+abbrev Inv-loop : tie.InvT-loop
+Inv-loop f bytes from at₀ count₀ at count = Stitches f bytes from at count
+
+abbrev μ-loop : tie.MeasureT-loop
+μ-loop f bytes from at₀ count₀ at count = length bytes - at
+
+loop-holds : tie.Need-loop-holds Inv-loop μ-loop
+loop-holds c = none
+
+plain-len-requires : tie.Need-plain-len-requires Inv-loop μ-loop
+plain-len-requires c κs = let a = c .before .before .args in span (a .f) (now (a .bytes)) (c .loop .inv) (c .before .before .pre .1) .within
+
+returns : tie.Need-returns Inv-loop μ-loop
+returns c = c .before .before .loop .inv
+
+-- one stitch more
+again : (c : tie.Else1 Inv-loop μ-loop)
+    → (let a = c .before .before .before .before .args in
+    let l = c .before .before .loop in
+    Stitches (a .f) (now (a .bytes)) (a .from) (l .at + c .before .plain-len .result) (suc (l .count)))
+again c =
+    let a = c .before .before .before .before .args in
+    let l = c .before .before .loop in
+    more (l .inv) (plain-here (a .f) (now (a .bytes)) (l .at) (c .before .plain-len .ensures) (above _ (c .if1 .left)))
+
+add-at : tie.Need-add-at Inv-loop μ-loop
+add-at c = let a = c .before .before .before .before .args in omega (arith, span (a .f) (now (a .bytes)) (again c) (c .before .before .before .before .pre .1), c .before .before .before .before .pre .0)
+
+add-count : tie.Need-add-count Inv-loop μ-loop
+add-count c = let a = c .before .before .before .before .args in omega (arith, span (a .f) (now (a .bytes)) (again c) (c .before .before .before .before .pre .1), c .before .before .before .before .pre .0)
+
+loop-less : tie.Need-loop-less Inv-loop μ-loop
+loop-less c = let a = c .before .before .before .before .args in omega (arith, span (a .f) (now (a .bytes)) (again c) (c .before .before .before .before .pre .1), above _ (c .if1 .left))
+
+loop-again : tie.Need-loop-again Inv-loop μ-loop
+loop-again c = rw add-one (again c)
+
+pub skip-plain-spec : {M : Type 1} → statement M
+skip-plain-spec =
+    tie.close
+    (tie.spec
+    Inv-loop
+    μ-loop
+    loop-holds
+    plain-len-requires
+    returns
+    add-at
+    add-count
+    loop-less
+    loop-again)
