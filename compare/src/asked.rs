@@ -5,7 +5,7 @@ use crate::lists::{self, CHANGE, EDGE, JUMP, List, Move, STITCH, TRIM};
 use crate::oracle::Format;
 use crate::port::Lists;
 use crate::random::Random;
-use crate::{borders, faults, written};
+use crate::{borders, faults, pictures, written};
 
 /// What a write is asked, fit or not.
 #[derive(Clone)]
@@ -34,10 +34,15 @@ impl Boundary {
     }
 
     /// The next to ask, the formats by turns: of each format in turn a list
-    /// without faults, boundary ones first, and one with faults.
+    /// without faults, boundary ones first, and one with faults; now and then a
+    /// dense design instead of the latter.
     pub fn next(&self, at: usize, random: &mut Random) -> Asked {
         let (which, turn) = (at % Format::ALL.len(), at / Format::ALL.len());
         let (format, lists) = (Format::ALL[which], &self.lists[which]);
+        if turn % 64 == 63 && matches!(format, Format::Pes | Format::Pec) {
+            let script = pictures::dense(format, random);
+            return asked(format, &lists::list("dense", &script, random), random);
+        }
         if turn % 2 == 1 {
             let list = base(format, lists, random);
             return faulty(format, &list, random);

@@ -19,7 +19,7 @@ use Rattle.rules.specs.declared.Format.{Format}
 use Rattle.rules.specs.declared.Format.the-variants.{Pes, Pec, Dst, Exp, Jef}
 use Rattle.laws.specs.Tests.{and-no-right, pick-false}
 use Rattle.laws.specs.Listing.{length-commands, count-le}
-use Rattle.encode.specs.Cmds.{cmdOf, kindIn}
+use Rattle.encode_cmd.specs.Cmds.{cmdOf, kindIn}
 
 -- t bytes of n commands, s of them stitches, c of kinds 1 to 3 and r trims
 abbrev pub Sum : Format → ℕ → ℕ → ℕ → ℕ → ℕ → Type 0

@@ -1,5 +1,2 @@
-pub mod Digits
-pub mod Bytes
 pub mod Lengths
-pub mod Parts
 pub mod Stream

@@ -20,7 +20,7 @@ use Rattle.laws.specs.Tests.{and-left, and-right, or-no-left, or-no-right}
 use Rattle.laws.specs.Ints.{ints, ret, abs-le, between-true}
 use Rattle.laws.specs.Buffers.{Put, Writing, writing-start, writing-room, writing-more, writing-done}
 use Rattle.laws.specs.Listing.{commands-more, list-end}
-use Rattle.encode.specs.Cmds.{cmdOf, most, Step, Ready, StepAt, bytesAt}
+use Rattle.encode_cmd.specs.Cmds.{cmdOf, most, Step, Ready, StepAt, bytesAt}
 
 -- ---- a step within a format's limits
 

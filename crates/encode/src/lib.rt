@@ -1,4 +1,4 @@
-// The bytes of commands in DST, EXP and JEF: of one, and of all commands of a list.
+// The bytes of all commands of a list in DST, EXP and JEF.
 pub mod pairs;
 pub mod triples;
 
@@ -16,7 +16,7 @@ ghost use Rattle.rules.specs.Vocabulary.{pick, count};
 ghost use Rattle.rules.specs.Lists.{commands, written};
 ghost use Rattle.rules.specs.Refusals.{stepTooLong};
 ghost use Rattle.laws.specs.Buffers.{Put};
-ghost use Rattle.encode.specs.Cmds.{cmdOf, kindIn};
+ghost use Rattle.encode_cmd.specs.Cmds.{cmdOf, kindIn};
 
 // A step on one axis, between two places that are near each other.
 fn step(from: i32, to: i32) -> i32

@@ -1,16 +1,23 @@
 -- The bounds of a list, as a loop finds them: from the places so far and those that are left. Assumes nothing.
-use Prim.Native.Nat.{ℕ, _<_, _^_}
+use Prim.Native.Nat.{ℕ, suc, _<_, _≤_, _^_}
 use mathlib.Core.Path.{_≡_, refl, sym, ap, _∙_}
+use mathlib.Core.Bool.{false}
 use mathlib.Core.List.{List, [], _∷_, map}
 use lib.IntN.{ℤ, pos, negsuc}
-use lib.ListN.{getD}
+use lib.ListN.{getD, length, drop}
 use lib.Signed.{leZ, mag}
-use Rattle.rules.specs.Lists.{minZ, maxZ, leastFrom, greatestFrom, least, greatest, minX, minY, maxX, maxY}
+use mir.Syntax.{Width, w16, w32}
+use mir.Val.{SFits, hbits, toZ, ofZ}
+use mir.Facts.{sfits-widen}
+use Rattle.rules.specs.Lists.{commands, minZ, maxZ, leastFrom, greatestFrom, least, greatest, minX, minY, maxX, maxY}
+use Rattle.rules.specs.Refusals.{placeOutside}
 use Rattle.rules.specs.declared.Cmd.{Cmd}
 use Rattle.laws.specs.Tests.{by-test}
-use Rattle.laws.specs.Ints.{parts, le-true, le-false, mag-is, one0}
+use Rattle.laws.specs.Ints.{parts, le-true, le-false, mag-is, abs-is, one0, fit, ret}
+use Rattle.laws.specs.Listing.{cmdAt, commands-at}
+use Rattle.laws.specs.Places.{Small, Within, every}
 use native.Mathlib.Omega.{arith}
-use Rattle.geom.specs.Frames.{place, frame, nothing, added, boundsOf}
+use Rattle.geom.specs.Frames.{place, frame, added, boundsOf}
 use Rattle.geom.specs.declared.Bounds.{Bounds}
 
 abbrev xOf : Cmd → ℤ
@@ -19,52 +26,89 @@ xOf c = c .x
 abbrev yOf : Cmd → ℤ
 yOf c = c .y
 
--- b holds the places before `rest`
-pub record Framing (cs : List Cmd) (b : Bounds) (rest : List Cmd) : Type 0 where
-  pub left : leastFrom (pos 2147483647) (map xOf cs) ≡ leastFrom (b .min .x) (map xOf rest)
-  pub top : leastFrom (pos 2147483647) (map yOf cs) ≡ leastFrom (b .min .y) (map yOf rest)
-  pub right : greatestFrom (negsuc 2147483647) (map xOf cs) ≡ greatestFrom (b .max .x) (map xOf rest)
-  pub bottom : greatestFrom (negsuc 2147483647) (map yOf cs) ≡ greatestFrom (b .max .y) (map yOf rest)
+-- b holds the places before `rest`, and the limits of a type that goes up to m
+pub record Framing (m : ℕ) (cs : List Cmd) (b : Bounds) (rest : List Cmd) : Type 0 where
+  pub left : leastFrom (pos m) (map xOf cs) ≡ leastFrom (b .min .x) (map xOf rest)
+  pub top : leastFrom (pos m) (map yOf cs) ≡ leastFrom (b .min .y) (map yOf rest)
+  pub right : greatestFrom (negsuc m) (map xOf cs) ≡ greatestFrom (b .max .x) (map xOf rest)
+  pub bottom : greatestFrom (negsuc m) (map yOf cs) ≡ greatestFrom (b .max .y) (map yOf rest)
 
-pub framing-start : (cs : List Cmd) → Framing cs nothing cs
-framing-start cs = record { left = refl; top = refl; right = refl; bottom = refl }
+-- no place yet: the limits
+pub framing-start : (m : ℕ) (cs : List Cmd) → Framing m cs (frame (pos m) (pos m) (negsuc m) (negsuc m)) cs
+framing-start m cs = record { left = refl; top = refl; right = refl; bottom = refl }
 
-pub framing-more : {cs rest more : List Cmd} {b : Bounds} (c : Cmd) → Framing cs b rest → rest ≡ c ∷ more → Framing cs (added b (place (c .x) (c .y))) more
+pub framing-more : {m : ℕ} {cs rest more : List Cmd} {b : Bounds} (c : Cmd) → Framing m cs b rest → rest ≡ c ∷ more
+    → Framing m cs (added b (place (c .x) (c .y))) more
 unfolding leastFrom greatestFrom
 framing-more c f e = record { left = f .left ∙ rw e; top = f .top ∙ rw e; right = f .right ∙ rw e; bottom = f .bottom ∙ rw e }
 
 -- the first place takes the place of the limits
-min-limit : (z : ℤ) → mag z < 2 ^ 31 → minZ (pos 2147483647) z ≡ z
-unfolding minZ
-min-limit z h = by-test (leZ (pos 2147483647) z)
-    (λ t. rw t (parts (pos 2147483647) z (omega (arith, le-true (pos 2147483647) z t, mag-is z, one0 z))))
-    (λ t. rw t)
+module _ (m : ℕ) (z : ℤ) (h : mag z < suc m) where
+  min-limit : minZ (pos m) z ≡ z
+  unfolding minZ
+  min-limit = by-test (leZ (pos m) z)
+      (λ t. rw t (parts (pos m) z (omega (arith, le-true (pos m) z t, mag-is z, one0 z))))
+      (λ t. rw t)
 
-max-limit : (z : ℤ) → mag z < 2 ^ 31 → maxZ (negsuc 2147483647) z ≡ z
-unfolding maxZ
-max-limit z h = by-test (leZ (negsuc 2147483647) z)
-    (λ t. rw t)
-    (λ t. rw t (parts (negsuc 2147483647) z (omega (arith, le-false (negsuc 2147483647) z t, mag-is z, one0 z))))
+  max-limit : maxZ (negsuc m) z ≡ z
+  unfolding maxZ
+  max-limit = by-test (leZ (negsuc m) z)
+      (λ t. rw t)
+      (λ t. rw t (parts (negsuc m) z (omega (arith, le-false (negsuc m) z t, mag-is z, one0 z))))
 
-first-least : (z : ℤ) (zs : List ℤ) → mag z < 2 ^ 31 → leastFrom (pos 2147483647) (z ∷ zs) ≡ least (z ∷ zs)
-unfolding leastFrom least
-first-least z zs h = ap (λ (m : ℤ). leastFrom m zs) (min-limit z h)
+  first-least : (zs : List ℤ) → leastFrom (pos m) (z ∷ zs) ≡ least (z ∷ zs)
+  unfolding leastFrom least
+  first-least zs = ap (λ (x : ℤ). leastFrom x zs) min-limit
 
-first-greatest : (z : ℤ) (zs : List ℤ) → mag z < 2 ^ 31 → greatestFrom (negsuc 2147483647) (z ∷ zs) ≡ greatest (z ∷ zs)
-unfolding greatestFrom greatest
-first-greatest z zs h = ap (λ (m : ℤ). greatestFrom m zs) (max-limit z h)
+  first-greatest : (zs : List ℤ) → greatestFrom (negsuc m) (z ∷ zs) ≡ greatest (z ∷ zs)
+  unfolding greatestFrom greatest
+  first-greatest zs = ap (λ (x : ℤ). greatestFrom x zs) max-limit
 
-pub framing-done : {cs more : List Cmd} {b : Bounds} (c : Cmd) → cs ≡ c ∷ more → mag (c .x) < 2 ^ 31 → mag (c .y) < 2 ^ 31 → Framing cs b [] → b ≡ boundsOf cs
+pub framing-done : (m : ℕ) {cs more : List Cmd} {b : Bounds} (c : Cmd) → cs ≡ c ∷ more → mag (c .x) < suc m → mag (c .y) < suc m → Framing m cs b [] → b ≡ boundsOf cs
 unfolding boundsOf minX minY maxX maxY leastFrom greatestFrom
-framing-done {more = more} {b = b} c e hx hy f =
+framing-done m {more = more} {b = b} c e hx hy f =
     let x = map xOf more in
     let y = map yOf more in
     rw e (λ i. frame
-    ((sym (rw e at (f .left)) ∙ first-least (c .x) x hx) i)
-    ((sym (rw e at (f .top)) ∙ first-least (c .y) y hy) i)
-    ((sym (rw e at (f .right)) ∙ first-greatest (c .x) x hx) i)
-    ((sym (rw e at (f .bottom)) ∙ first-greatest (c .y) y hy) i))
+    ((sym (rw e at (f .left)) ∙ first-least m (c .x) hx x) i)
+    ((sym (rw e at (f .top)) ∙ first-least m (c .y) hy y) i)
+    ((sym (rw e at (f .right)) ∙ first-greatest m (c .x) hx x) i)
+    ((sym (rw e at (f .bottom)) ∙ first-greatest m (c .y) hy y) i))
 
 -- the elements of a slice read so far are numbers of 32 bits
 abbrev pub Read : List ℤ → ℕ → Type 0
 Read zs n = (j : ℕ) → j < n → mag (getD zs j (pos 0)) < 2 ^ 31
+
+-- ---- in numbers of 16 bits
+
+-- four numbers that hold the places before i; n is the number of commands
+pub record Near (cs : List Cmd) (n i x0 y0 x1 y1 : ℕ) : Type 0 where
+  pub upto : i ≤ n
+  pub whole : n ≡ length cs
+  pub left : SFits w16 (toZ w16 x0)
+  pub top : SFits w16 (toZ w16 y0)
+  pub right : SFits w16 (toZ w16 x1)
+  pub bottom : SFits w16 (toZ w16 y1)
+  pub framing : Framing 32767 cs (frame (toZ w16 x0) (toZ w16 y0) (toZ w16 x1) (toZ w16 y1)) (drop i cs)
+
+-- what is read back from its bits fits
+pub fits-back : (w : Width) (z : ℤ) → mag z < 2 ^ hbits w → SFits w (toZ w (ofZ w z))
+fits-back w z h = rw (ret w z h) (fit w z h)
+
+-- and fits a wider type
+pub wider : {z : ℤ} → SFits w16 z → SFits w32 z
+wider f = sfits-widen tt f
+
+-- a place that is not outside fits
+pub small-fits : (z : ℤ) → Small z → SFits w16 z
+small-fits z h = record { sfits = omega (arith, abs-is z, mag-is z) }
+
+module _ (xs ys : List ℤ) (ks : List ℕ) (e : placeOutside (commands xs ys ks) ≡ false) (i : ℕ) (h : i < length (commands xs ys ks)) where
+  near : Within (cmdAt xs ys ks i)
+  near = rw (commands-at xs ys ks i h) at (every (commands xs ys ks) e i h)
+
+  pub near-x : SFits w16 (getD xs i (pos 0))
+  near-x = small-fits (getD xs i (pos 0)) (near .across)
+
+  pub near-y : SFits w16 (getD ys i (pos 0))
+  near-y = small-fits (getD ys i (pos 0)) (near .down)

@@ -9,11 +9,12 @@ use rules::Found;
 pub use rules::Op;
 use rules::Slot;
 ghost use mathlib.Core.Path.{_≡_};
+ghost use mathlib.Core.Bool.{true, false};
 ghost use mathlib.Core.List.{[], _∷_};
 ghost use Prim.Native.Nat.{_≤_, min};
 ghost use lib.ListN.{length};
-ghost use Rattle.rules.specs.Lists.{opOf, commands};
-ghost use Rattle.rules.specs.Refusals.{lower, named, extensionOf};
+ghost use Rattle.rules.specs.Lists.{opOf, commands, minZ, maxZ};
+ghost use Rattle.rules.specs.Refusals.{lower, named, extensionOf, placeOutside};
 ghost use Rattle.rules.specs.Choices.{halfToEven, gap, weighed, distance, sameColor, nearestIndex, pecPalette};
 ghost use Rattle.geom.specs.Frames.{boundsOf};
 ghost use Rattle.laws.specs.Choosing.{takes};
@@ -113,6 +114,47 @@ pub fn stream_bounds(xs: &[i32], ys: &[i32], kinds: &[u8]) -> Bounds
     b
 }
 
+fn least(a: i16, b: i16) -> i16
+    ensures { λ r. ⌜ r ≡ minZ a b ⌝ }
+{
+    if a <= b { a } else { b }
+}
+
+fn greatest(a: i16, b: i16) -> i16
+    ensures { λ r. ⌜ r ≡ maxZ a b ⌝ }
+{
+    if a <= b { b } else { a }
+}
+
+// The same where every place lies from -16,000 to 16,000, in numbers of 16 bits.
+pub fn near_bounds(xs: &[i32], ys: &[i32], kinds: &[u8]) -> Bounds
+    requires { ⌜ placeOutside (commands (now xs) (now ys) (now kinds)) ≡ false ⌝ }
+    ensures { λ r. ⌜ r ≡ boundsOf (commands (now (xs .entry)) (now (ys .entry)) (now (kinds .entry))) ⌝ }
+{
+    let n = list_len(xs, ys, kinds);
+    if n == 0 {
+        return Bounds::empty().add(P::new(0, 0));
+    }
+    let mut x0: i16 = 32767;
+    let mut y0: i16 = 32767;
+    let mut x1: i16 = -32768;
+    let mut y1: i16 = -32768;
+    let mut i = 0;
+    while i < n {
+        let x = xs[i] as i16;
+        let y = ys[i] as i16;
+        x0 = least(x0, x);
+        y0 = least(y0, y);
+        x1 = greatest(x1, x);
+        y1 = greatest(y1, y);
+        i += 1;
+    }
+    Bounds {
+        min: P::new(x0 as i32, y0 as i32),
+        max: P::new(x1 as i32, y1 as i32),
+    }
+}
+
 fn half_to_even(n: u32) -> u32
     requires { ⌜ n ≤ 510 ⌝ }
     ensures { λ r. ⌜ (r ≡ halfToEven n) × (r ≤ 255) ⌝ }
@@ -163,28 +205,25 @@ pub struct Best {
 }
 
 // Whether a thread at distance d takes the lead from what was found at distance e.
-fn takes(later: bool, at: Found, e: u32, d: u32) -> bool
-    ensures { λ r. ⌜ r ≡ takes later at e d ⌝ }
+fn takes(at: Found, e: u32, d: u32) -> bool
+    ensures { λ r. ⌜ r ≡ takes true at e d ⌝ }
 {
     let Found::At(_) = at else {
         return true;
     };
-    if later {
-        return d <= e;
-    }
-    d < e
+    d <= e
 }
 
-// The nearest entry after entry i; of equal distances the later one wins, or the first.
-pub fn closer(later: bool, color: Color, best: Best, s: Slot, i: usize) -> Best
-    ensures { λ r. ⌜ r ≡ closerOf later color best s i ⌝ }
+// The nearest entry after entry i; of equal distances the later one.
+fn closer(color: Color, best: Best, s: Slot, i: usize) -> Best
+    ensures { λ r. ⌜ r ≡ closerOf true color best s i ⌝ }
 {
     let Slot::Thread(t) = s else {
         return best;
     };
     let d = color_distance(color, t);
     let at = best.at;
-    if takes(later, at, best.distance, d) {
+    if takes(at, best.distance, d) {
         return Best {
             at: Found::At(i),
             distance: d,
@@ -203,7 +242,7 @@ pub fn nearest_index(color: Color, palette: [Slot; 65]) -> Found
     };
     let mut i = 0;
     while i < 65 {
-        best = closer(true, color, best, palette[i], i);
+        best = closer(color, best, palette[i], i);
         i += 1;
     }
     best.at

@@ -1,7 +1,7 @@
 // JEF: header, two tables of threads, the commands' bytes.
-use crate::choice_in;
-use crate::jef_threads;
 use checks::check_list;
+use choices::choice_in;
+use choices::jef_threads;
 use emit::put_text;
 use emit::put_times;
 use emit::put_word;
@@ -10,8 +10,8 @@ use emit::spread;
 use encode::put_stream;
 use encode::stream_len;
 use formats::list_len;
+use formats::near_bounds;
 use formats::op_of;
-use formats::stream_bounds;
 use rules::Color;
 use rules::Format;
 use rules::Op;
@@ -29,7 +29,7 @@ ghost use Rattle.rules.specs.Choices.{jefEntries};
 ghost use Rattle.rules.specs.Jef.{pointsIn, pointCount, jefHoop, halfUp, edges, jefTable, words, jefHeader, jefFile};
 ghost use Rattle.rules.specs.Lists.{commands, threadsOf};
 ghost use Rattle.rules.specs.Files.{writeVerdict, writeAnswer, filled, fileOf};
-ghost use Rattle.rules.specs.Refusals.{stepTooLong};
+ghost use Rattle.rules.specs.Refusals.{placeOutside, stepTooLong};
 ghost use Rattle.rules.specs.declared.Extension.the-variants.{Of};
 ghost use Rattle.rules.specs.declared.Format.the-variants.{Jef};
 ghost use Rattle.rules.specs.declared.Previous.the-variants.{First};
@@ -205,11 +205,12 @@ fn put_sizes(w: u32, h: u32, out: &mut [u8], at: usize) -> usize
 
 fn put_header(xs: &[i32], ys: &[i32], kinds: &[u8], threads: &[u8], out: &mut [u8]) -> usize
     requires { ⌜ (length (now kinds) ≤ 65535) × (length (now threads) ≤ 765) ⌝ }
+    requires { ⌜ placeOutside (commands (now xs) (now ys) (now kinds)) ≡ false ⌝ }
     requires { ⌜ length (jefHeader (commands (now xs) (now ys) (now kinds)) (threadsOf (now threads))) ≤ length (now out) ⌝ }
     ensures { λ r. ⌜ Put (now (out .entry)) (now (out .exit)) 0 r (jefHeader (commands (now (xs .entry)) (now (ys .entry)) (now (kinds .entry))) (threadsOf (now (threads .entry)))) ⌝ }
 {
     let n = table_len(threads);
-    let b = stream_bounds(xs, ys, kinds);
+    let b = near_bounds(xs, ys, kinds);
     let w = spread(b.min.x, b.max.x);
     let h = spread(b.min.y, b.max.y);
     let sizes = put_start(n, point_count(xs, ys, kinds), jef_hoop(w, h), out);
@@ -221,6 +222,7 @@ fn put_header(xs: &[i32], ys: &[i32], kinds: &[u8], threads: &[u8], out: &mut [u
 // A whole file.
 fn put_file(xs: &[i32], ys: &[i32], kinds: &[u8], threads: &[u8], out: &mut [u8]) -> usize
     requires { ⌜ (length (now kinds) ≤ 65535) × ((length (now threads) ≤ 765) × (stepTooLong Jef (commands (now xs) (now ys) (now kinds)) ≡ false)) ⌝ }
+    requires { ⌜ placeOutside (commands (now xs) (now ys) (now kinds)) ≡ false ⌝ }
     requires { ⌜ length (jefFile (commands (now xs) (now ys) (now kinds)) (threadsOf (now threads))) ≤ length (now out) ⌝ }
     ensures { λ r. ⌜ Put (now (out .entry)) (now (out .exit)) 0 r (jefFile (commands (now (xs .entry)) (now (ys .entry)) (now (kinds .entry))) (threadsOf (now (threads .entry)))) ⌝ }
 {
@@ -237,6 +239,7 @@ fn write_accepted(
     out: &mut [u8],
 ) -> WriteAnswer
     requires { ⌜ (length (now kinds) ≤ 65535) × ((length (now threads) ≤ 765) × (stepTooLong Jef (commands (now xs) (now ys) (now kinds)) ≡ false)) ⌝ }
+    requires { ⌜ placeOutside (commands (now xs) (now ys) (now kinds)) ≡ false ⌝ }
     ensures { λ r. ⌜ Answered (jefFile (commands (now (xs .entry)) (now (ys .entry)) (now (kinds .entry))) (threadsOf (now (threads .entry)))) (now (out .entry)) (now (out .exit)) r ⌝ }
 {
     let n = 116 + 8 * table_len(threads) + stream_len(Format::Jef, xs, ys, kinds);

@@ -12,9 +12,9 @@ use Rattle.rules.specs.declared.Record.{Record}
 use Rattle.rules.specs.declared.Record.the-variants.{StitchBy, JumpBy, ChangeBy, Finish}
 use Rattle.laws.specs.Reading.{events-step}
 use Rattle.records.proofs.Formats.{Near, near, inside}
-use Rattle.passes.specs.Builders.{some, added}
+use Rattle.builder.proofs.Parts.{run-cells, point-cells, block-cells, added-after, sizes}
+use Rattle.builder.specs.Builders.{some, added}
 use Rattle.passes.specs.Told.{Fits, Ample}
-use Rattle.passes.proofs.Parts.{run-cells, point-cells, block-cells, added-after, sizes}
 
 -- the three answers of some events, from n points in the open run and m runs begun, against N bytes
 record Limits (N n m : ℕ) (es : List Event) : Type 0 where

@@ -20,13 +20,14 @@ use Rattle.laws.specs.Ints.{abs-add}
 use Rattle.laws.specs.Reading.{events-step, read-finish}
 use Rattle.records.proofs.Formats.{Near, near, inside}
 use Rattle.records.specs.Fields.{lenOf, dxOf, dyOf}
-use Rattle.passes.specs.Builders.{origin, sewn, opening, startBy, followed, finished, placeAfter, placesBy, runsBy, blocksBy, Counted, Small, Reach, Holds}
+use Rattle.builder.proofs.Parts.{in-run, run-cells, block-cells}
+use Rattle.builder.proofs.Sewn.{sewn-next}
+use Rattle.builder.specs.Builders.{origin, sewn, opening, startBy, followed, finished, placeAfter, placesBy, runsBy, blocksBy, Counted, Small, Reach, Holds}
+use Rattle.builder.specs.declared.Builder.{Builder}
 use Rattle.passes.specs.Stretches.{Stitches, none, more, reached, placesOf, Drawn, Short}
 use Rattle.passes.specs.Told.{placesIn, runsIn, blocksIn, Told, Fits}
-use Rattle.passes.specs.declared.builder.Builder.{Builder}
 use Rattle.passes.specs.declared.stretch.Stretch.{Stretch}
-use Rattle.passes.proofs.Parts.{in-run, run-cells, block-cells}
-use Rattle.passes.proofs.Stretches.{here, span, reached-within, sewn-next, sewn-cells, stretch-cells, start-late}
+use Rattle.passes.proofs.Stretches.{here, span, reached-within, sewn-cells, stretch-cells, start-late}
 use Rattle.passes.proofs.Turns.{placesLeft, runsLeft, blocksLeft, eventsAfter, moved, places-next, runs-next, blocks-next, points-by, runs-by, blocks-by, left-anywhere, any-colours, Bounded, bounded-next}
 
 module _ (f : Format) (bytes : List ℕ) where

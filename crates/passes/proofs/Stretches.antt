@@ -1,4 +1,4 @@
--- Plain stitches that follow each other: how far they go, which places they reach, and the builder after one more. Assumes nothing.
+-- Plain stitches that follow each other: how far they go, which places they reach, and their cells. Assumes nothing.
 use Prim.Native.Nat.{ℕ, zero, suc, _+_, _-_, _*_, _≤_, _<_}
 use mathlib.Core.Path.{_≡_, refl, sym, ap, _∙_}
 use mathlib.Core.List.{List, [], _∷_, _++_}
@@ -17,12 +17,12 @@ use Rattle.records.proofs.Formats.{Near, near}
 use Rattle.records.proofs.Plains.{plain-is}
 use Rattle.records.specs.Fields.{lenOf, dxOf, dyOf}
 use Rattle.records.specs.Plain.{plainLen}
-use Rattle.passes.specs.Builders.{opening, stitched, ahead, sewn, startBy}
+use Rattle.builder.proofs.Parts.{may-open, point-cells}
+use Rattle.builder.proofs.Places.{Step, step}
+use Rattle.builder.specs.Builders.{opening, sewn, startBy}
+use Rattle.builder.specs.declared.Builder.{Builder}
 use Rattle.passes.specs.Stretches.{StitchAt, Stitches, none, more, reached, placesOf, Drawn}
-use Rattle.passes.specs.declared.builder.Builder.{Builder}
 use Rattle.passes.specs.declared.stretch.Stretch.{Stretch}
-use Rattle.passes.proofs.Parts.{in-run, may-open, point-cells}
-use Rattle.passes.proofs.Places.{Step, step}
 
 -- the code's test that a number is not 0
 pub above : (n : ℕ) → (n ≡ 0 → ⊥) → 0 < n
@@ -96,19 +96,7 @@ module _ (f : Format) (bytes : List ℕ) where
           stored = eP ∙ rw (g .stored, ex, ey, sets-append P₀ (2 * first) (placesOf x y s), end);
         })
 
--- one stitch more, wherever the place was before
-pub sewn-next : (k : ℕ) (b : Builder) (x y u v : ℤ) → sewn (suc k) b x y ≡ stitched (sewn k b u v) x y
-sewn-next zero b x y u v = let w = may-open (b .run) in rw (w .after, w .begun (b .begun), w .adds (b .points))
-sewn-next (suc k) b x y u v =
-    let w = in-run (b .run + suc k + opening (b .run)) (λ h. omega arith) in
-    let e : (n : ℕ) → n + suc (suc k) + opening (b .run) ≡ n + suc k + opening (b .run) + 1 = λ n. omega arith in
-    rw (w .after, w .begun (b .begun + opening (b .run)), w .adds, e (b .run), e (b .points))
-
 -- the code's way: no stitch, or some
-pub sewn-some : (n : ℕ) (b : Builder) (x y : ℤ) → (n ≡ 0 → ⊥) → sewn n b x y ≡ ahead n b x y
-sewn-some zero b x y h = absurd (h refl)
-sewn-some (suc n) b x y h = refl
-
 pub start-some : (n : ℕ) (b : Builder) → (n ≡ 0 → ⊥) → startBy n b ≡ startOf (b .run) (b .x) (b .y)
 start-some zero b h = absurd (h refl)
 start-some (suc n) b h = refl

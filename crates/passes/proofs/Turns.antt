@@ -12,9 +12,9 @@ use Rattle.rules.specs.declared.Record.{Record}
 use Rattle.rules.specs.declared.Record.the-variants.{StitchBy, JumpBy, ChangeBy, Finish}
 use Rattle.records.proofs.Formats.{Fair}
 use Rattle.records.specs.Fields.{lenOf, dxOf, dyOf}
-use Rattle.passes.specs.Builders.{some, followed, placeAfter, placesBy, runsBy, blocksBy}
-use Rattle.passes.specs.declared.builder.Builder.{Builder}
-use Rattle.passes.proofs.Parts.{run-cells, point-cells, block-cells, sizes}
+use Rattle.builder.proofs.Parts.{run-cells, point-cells, block-cells, sizes}
+use Rattle.builder.specs.Builders.{some, followed, placeAfter, placesBy, runsBy, blocksBy}
+use Rattle.builder.specs.declared.Builder.{Builder}
 
 -- the answers still to come
 abbrev pub placesLeft : Builder → List Event → List ℤ

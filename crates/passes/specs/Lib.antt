@@ -1,4 +1,2 @@
-pub mod Builders
-pub mod Colour
 pub mod Told
 pub mod Stretches

@@ -1,15 +1,15 @@
 // What goes into the three buffers, each cell once and in order.
-use crate::builder::Builder;
-use crate::builder::after_stitches;
-use crate::builder::color_change;
-use crate::builder::dx_of;
-use crate::builder::dy_of;
-use crate::builder::jump;
-use crate::builder::opens;
-use crate::builder::stitch;
-use crate::builder::sum;
-use crate::colors::color_of;
 use crate::stretch::Stretch;
+use builder::Builder;
+use builder::after_stitches;
+use builder::color_change;
+use builder::colors::color_of;
+use builder::dx_of;
+use builder::dy_of;
+use builder::jump;
+use builder::opens;
+use builder::stitch;
+use builder::sum;
 use rules::Record;
 ghost use mathlib.Core.Path.{_≡_};
 ghost use mathlib.Core.List.{[], _∷_, _++_};
@@ -19,8 +19,8 @@ ghost use lib.ListN.{length};
 ghost use lib.Seq.{sets};
 ghost use Rattle.rules.specs.Answers.{startOf, runOf, blockOf};
 ghost use Rattle.records.specs.Fields.{dxOf, dyOf};
-ghost use Rattle.passes.specs.Builders.{Small, Reach, sewn, startBy, followed, placesBy, runsBy, blocksBy, Holds};
-ghost use Rattle.passes.specs.Colour.{colourIn};
+ghost use Rattle.builder.specs.Builders.{Small, Reach, sewn, startBy, followed, placesBy, runsBy, blocksBy, Holds};
+ghost use Rattle.builder.specs.Colour.{colourIn};
 ghost use Rattle.passes.specs.Stretches.{Short};
 
 // Point i of all points.

@@ -1,21 +1,19 @@
 // The three answers of a read: one pass over the records counts their cells, one writes them.
 pub mod answers;
-pub mod builder;
-pub mod colors;
 pub mod stretch;
 
 use crate::answers::after_stretch;
 use crate::answers::close;
 use crate::answers::write;
-use crate::builder::after_stitches;
-use crate::builder::counts;
-use crate::builder::finish;
-use crate::builder::follow;
-use crate::builder::new;
-use crate::builder::opens;
-use crate::builder::place_after;
 use crate::stretch::draw_plain;
 use crate::stretch::skip_plain;
+use builder::after_stitches;
+use builder::counts;
+use builder::finish;
+use builder::follow;
+use builder::new;
+use builder::opens;
+use builder::place_after;
 use records::record_at;
 use rules::Counts;
 use rules::Format;
@@ -25,7 +23,7 @@ ghost use Prim.Native.Nat.{_≤_};
 ghost use lib.ListN.{length};
 ghost use Rattle.rules.specs.Files.{firstOf, filled};
 ghost use Rattle.rules.specs.declared.Verdict.the-variants.{Accepted};
-ghost use Rattle.passes.specs.Colour.{colourIn};
+ghost use Rattle.builder.specs.Colour.{colourIn};
 ghost use Rattle.passes.specs.Told.{placesIn, runsIn, blocksIn, Told, Fits, Ample};
 
 // How much the answers hold. No place is kept: the builder stays at (0, 0). A turn takes the plain stitches that come next, and one

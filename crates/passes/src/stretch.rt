@@ -1,6 +1,6 @@
 // Plain stitches that follow each other, by far the most records: each pass has a small loop for them.
 use crate::answers::put_point;
-use crate::builder::sum;
+use builder::sum;
 use records::plain::plain_len;
 use records::plain::plain_step;
 use rules::Format;

@@ -1,3 +1,2 @@
-pub mod Bytes
-pub mod Values
 pub mod Stream
+pub mod Runs

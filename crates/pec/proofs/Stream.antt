@@ -1,7 +1,7 @@
 -- The loops over the list: the next command's bytes, those of the commands after it, the same for a stitch that needs no pause, and that a step is small.
 -- Assumes nothing.
 use Prim.Native.Nat.{ℕ, _+_, _^_, _≤_, _<_}
-use mathlib.Core.Path.{_≡_, refl, ap, _∙_}
+use mathlib.Core.Path.{_≡_, refl}
 use mathlib.Core.Bool.{Bool, true, false, not, _&&_, _||_}
 use mathlib.Core.List.{List, [], _∷_, _++_}
 use lib.Dec.{eqb}
@@ -13,18 +13,18 @@ use mir.Syntax.{w32}
 use mir.Val.{hbits, toZ, ofZ}
 use Rattle.rules.specs.Vocabulary.{between}
 use Rattle.rules.specs.Lists.{opOf, commands, anyFrom, stepIn, leastStep, greatestStep}
-use Rattle.rules.specs.Pec.{PecState, pecStart, pecNext, pecValue, pause, pecCmd, pecStitches}
+use Rattle.rules.specs.Pec.{PecState, pecNext, pecValue, pause, pecCmd, pecStitches}
 use Rattle.rules.specs.Refusals.{stepsPast}
 use Rattle.rules.specs.declared.Cmd.{Cmd}
 use Rattle.rules.specs.declared.Format.the-variants.{Pec}
 use Rattle.rules.specs.declared.Op.{Op}
 use Rattle.rules.specs.declared.Op.the-variants.{Stitch, Jump, Trim, ColorChange, End}
-use Rattle.laws.specs.Tests.{clash, and-left, and-right, or-no-left, or-no-right}
+use Rattle.laws.specs.Tests.{and-left, and-right, or-no-left, or-no-right}
 use Rattle.laws.specs.Ints.{ints, ret, abs-le, between-true}
 use Rattle.laws.specs.Listing.{commands-more, list-end}
-use Rattle.pec.specs.declared.State.{State}
-use Rattle.pec.specs.States.{stateOf, Step}
-use Rattle.pec.proofs.Values.{un-not, un-not-not}
+use Rattle.pec_cmd.specs.declared.State.{State}
+use Rattle.pec_cmd.specs.States.{stateOf, Step}
+use Rattle.pec_cmd.proofs.Values.{un-not, un-not-not}
 
 -- ---- a step within PEC's limits
 
@@ -40,17 +40,13 @@ small dx dy e =
 
 -- ---- a stitch that follows a stitch or a colour change
 
--- a state after a stitch or a colour change is not that of the beginning
-abbrev pub Opened : State → Type 0
-Opened s = s .jumped ≡ false → s .opening ≡ false
-
 -- it has no pause, and the state stays
 pub record Going (s : PecState) (kind : ℕ) : Type 0 where
   pub jumped : s .jumped ≡ false
   pub stitch : opOf kind ≡ Stitch
   pub stays : pecNext s Stitch ≡ s
 
-next-opening : (s : PecState) (op : Op) → pecNext s op .opening ≡ false
+pub next-opening : (s : PecState) (op : Op) → pecNext s op .opening ≡ false
 unfolding pecNext
 next-opening s Stitch = refl
 next-opening s Jump = refl
@@ -58,26 +54,50 @@ next-opening s Trim = refl
 next-opening s ColorChange = refl
 next-opening s End = refl
 
-still : (s : State) → s .jumped ≡ false → s .opening ≡ false → pecNext (stateOf s) Stitch ≡ stateOf s
+pub still : (s : State) → s .jumped ≡ false → s .opening ≡ false → pecNext (stateOf s) Stitch ≡ stateOf s
 unfolding pecNext
 still s e f = rw (e, f)
 
-stitch : (kind : ℕ) → kind ≡ 0 → opOf kind ≡ Stitch
+pub stitch : (kind : ℕ) → kind ≡ 0 → opOf kind ≡ Stitch
 unfolding opOf
 stitch kind e = rw e
 
-module _ (s : State) where
-  pub opened-start : stateOf s ≡ pecStart → Opened s
-  unfolding pecStart
-  opened-start p = λ e. clash (s .jumped) (ap (λ (t : PecState). t .jumped) p) e
+pub going : (s : State) (kind : ℕ) → (s .jumped ≡ false → s .opening ≡ false) → not (s .jumped) && eqb kind 0 ≡ true → Going (stateOf s) kind
+going s kind o e =
+    let j = un-not (s .jumped) (and-left (not (s .jumped)) (eqb kind 0) e) in
+    record { jumped = j; stitch = stitch kind (eqb-true kind 0 (and-right (not (s .jumped)) (eqb kind 0) e)); stays = still s j (o j) }
 
-  pub opened-next : (t : PecState) (op : Op) → stateOf s ≡ pecNext t op → Opened s
-  opened-next t op p = λ e. ap (λ (u : PecState). u .opening) p ∙ next-opening t op
+-- ---- one more command, its places as the list has them
 
-  pub going : (kind : ℕ) → Opened s → not (s .jumped) && eqb kind 0 ≡ true → Going (stateOf s) kind
-  going kind o e =
-      let j = un-not (s .jumped) (and-left (not (s .jumped)) (eqb kind 0) e) in
-      record { jumped = j; stitch = stitch kind (eqb-true kind 0 (and-right (not (s .jumped)) (eqb kind 0) e)); stays = still s j (o j) }
+module _ (xs ys : List ℤ) (ks : List ℕ) (i : ℕ) (x y : ℤ) (l : i < length (commands xs ys ks)) where
+  abbrev more : List Cmd
+  more = drop (i + 1) (commands xs ys ks)
+
+  abbrev dx : ℤ
+  dx = getD xs i (pos 0) -ℤ x
+
+  abbrev dy : ℤ
+  dy = getD ys i (pos 0) -ℤ y
+
+  pub plain-going : (s : PecState) → Going s (getD ks i 0)
+      → pecStitches s x y (drop i (commands xs ys ks)) ≡ (pecValue dx ++ pecValue dy) ++ pecStitches s (getD xs i (pos 0)) (getD ys i (pos 0)) more
+  unfolding pecStitches pecCmd pause
+  plain-going s g = rw (commands-more xs ys ks i l, g .stitch, g .stays, g .jumped)
+
+  -- no step is too long: not this one, and none later
+  module _ (e : anyFrom (stepsPast Pec) x y (drop i (commands xs ys ks)) ≡ false) where
+    abbrev later : Bool
+    later = anyFrom (stepsPast Pec) (getD xs i (pos 0)) (getD ys i (pos 0)) more
+
+    neither : not (stepIn Pec dx dy) || later ≡ false
+    unfolding anyFrom stepsPast
+    neither = rw (commands-more xs ys ks i l) at e
+
+    pub plain-step : Step dx dy
+    plain-step = small dx dy (un-not-not _ (or-no-left (not (stepIn Pec dx dy)) later neither))
+
+    pub plain-near : later ≡ false
+    plain-near = or-no-right (not (stepIn Pec dx dy)) later neither
 
 -- ---- one more command, and the end
 
@@ -125,26 +145,15 @@ module _ (xs ys : List ℤ) (ks : List ℕ) (i : ℕ) (s : PecState) where
 
       module _ (g : Going s (getD ks i 0)) where
         pub going-bytes : pecStitches s x y (drop i cs) ≡ stepsAt ++ stillAfter
-        unfolding pecCmd pause
-        going-bytes = rw (next-bytes, g .stitch, g .stays, g .jumped)
+        going-bytes = rw (ret w32 (getD xs i (pos 0)) p, ret w32 (getD ys i (pos 0)) q) (plain-going xs ys ks i x y l s g)
 
         pub going-long : length (pecStitches s x y (drop i cs)) ≡ length stepsAt + length stillAfter
         going-long = rw going-bytes (length-append stepsAt stillAfter)
 
       -- no step is too long: not this one, and none later
       module _ (e : anyFrom (stepsPast Pec) x y (drop i cs) ≡ false) where
-        abbrev past : Bool
-        past = not (stepIn Pec (readAt xs i -ℤ x) (readAt ys i -ℤ y))
-
-        abbrev later : Bool
-        later = anyFrom (stepsPast Pec) (readAt xs i) (readAt ys i) (drop (i + 1) cs)
-
-        neither : past || later ≡ false
-        unfolding anyFrom stepsPast
-        neither = rw one-more at e
-
         pub next-step : Step (readAt xs i -ℤ x) (readAt ys i -ℤ y)
-        next-step = small _ _ (un-not-not _ (or-no-left past later neither))
+        next-step = rw (ret w32 (getD xs i (pos 0)) p, ret w32 (getD ys i (pos 0)) q) (plain-step xs ys ks i x y l e)
 
-        pub next-near : later ≡ false
-        next-near = or-no-right past later neither
+        pub next-near : anyFrom (stepsPast Pec) (readAt xs i) (readAt ys i) (drop (i + 1) cs) ≡ false
+        next-near = rw (ret w32 (getD xs i (pos 0)) p, ret w32 (getD ys i (pos 0)) q) (plain-near xs ys ks i x y l e)

@@ -1,259 +1,28 @@
 // PEC: the stitches of a list, one command after the other.
-use emit::put;
 use emit::put2;
-use emit::put3;
 use formats::list_len;
 use formats::op_of;
-use rules::Op;
+use pec_cmd::cmd_len;
+use pec_cmd::is_short;
+use pec_cmd::low7;
+use pec_cmd::next;
+use pec_cmd::put_cmd;
+use pec_cmd::put_steps;
+use pec_cmd::start;
+use pec_cmd::step;
+use pec_cmd::steps_len;
 ghost use mathlib.Core.Path.{_≡_};
-ghost use mathlib.Core.Bool.{false, not, _&&_};
-ghost use mathlib.Core.List.{_++_};
-ghost use Prim.Native.Nat.{_+_, _<_, _≤_};
-ghost use lib.IntN.{pos, natAbs, negℤ, _-ℤ_};
+ghost use mathlib.Core.Bool.{true, false, not, _&&_};
+ghost use Prim.Native.Nat.{_+_, _-_, _*_, _<_, _≤_};
+ghost use lib.IntN.{pos};
 ghost use lib.Dec.{eqb};
 ghost use lib.ListN.{length};
-ghost use Rattle.rules.specs.Vocabulary.{pick, between, bitsOf, eqZ};
 ghost use Rattle.rules.specs.Lists.{commands};
-ghost use Rattle.rules.specs.Pec.{wide, pecValue, pecStart, pecNext, pause, pecCmd, pecStitches};
+ghost use Rattle.rules.specs.Pec.{pecStart, pecStitches};
 ghost use Rattle.rules.specs.Refusals.{stepTooLong};
 ghost use Rattle.rules.specs.declared.Format.the-variants.{Pec};
-ghost use Rattle.rules.specs.declared.Op.the-variants.{Stitch, Jump, ColorChange};
 ghost use Rattle.laws.specs.Buffers.{Put};
-ghost use Rattle.pec.specs.States.{stateOf, Step};
-
-// Between two commands: no stitch or colour change since the last jump, or since the list began; the next colour byte is 02;
-// no command yet.
-pub struct State {
-    pub jumped: bool,
-    pub two: bool,
-    pub opening: bool,
-}
-
-pub fn start() -> State
-    ensures { λ r. ⌜ stateOf r ≡ pecStart ⌝ }
-{
-    State {
-        jumped: true,
-        two: true,
-        opening: true,
-    }
-}
-
-fn next(s: State, op: Op) -> State
-    ensures { λ r. ⌜ stateOf r ≡ pecNext (stateOf s) op ⌝ }
-{
-    match op {
-        Op::Stitch => State {
-            jumped: false,
-            two: s.two,
-            opening: false,
-        },
-        Op::Jump => State {
-            jumped: true,
-            two: s.two,
-            opening: false,
-        },
-        Op::ColorChange => State {
-            jumped: false,
-            two: !s.two,
-            opening: false,
-        },
-        Op::Trim | Op::End => State {
-            jumped: s.jumped,
-            two: s.two,
-            opening: false,
-        },
-    }
-}
-
-// A step that one byte holds.
-fn is_short(z: i32) -> bool
-    ensures { λ r. ⌜ r ≡ between (negℤ (pos 63)) (pos 62) z ⌝ }
-{
-    if z < -63 {
-        return false;
-    }
-    z <= 62
-}
-
-fn low7(z: i32) -> u8
-    requires { ⌜ natAbs z ≤ 63 ⌝ }
-    ensures { λ r. ⌜ r ≡ bitsOf 6 z ⌝ }
-{
-    (((z + 128) as u32) % 128) as u8
-}
-
-fn low12(z: i32) -> u32
-    requires { ⌜ natAbs z ≤ 2048 ⌝ }
-    ensures { λ r. ⌜ (r ≡ bitsOf 11 z) × (r < 4096) ⌝ }
-{
-    ((z + 4096) as u32) % 4096
-}
-
-// A step in two bytes, with a flag in the first.
-fn put_wide(flag: u8, z: i32, out: &mut [u8], at: usize) -> usize
-    requires { ⌜ (flag ≤ 240) × (natAbs z ≤ 2048) ⌝ }
-    requires { ⌜ at + 2 ≤ length (now out) ⌝ }
-    ensures { λ r. ⌜ Put (now (out .entry)) (now (out .exit)) at r (wide flag z) ⌝ }
-{
-    let v = low12(z);
-    put2(out, at, flag + (v / 256) as u8, (v % 256) as u8)
-}
-
-fn value_len(z: i32) -> usize
-    ensures { λ r. ⌜ (r ≡ length (pecValue z)) × (r ≤ 2) ⌝ }
-{
-    if is_short(z) {
-        return 1;
-    }
-    2
-}
-
-// The bytes that the two steps of a stitch take.
-fn steps_len(dx: i32, dy: i32) -> usize
-    ensures { λ r. ⌜ (r ≡ length (pecValue dx ++ pecValue dy)) × (r ≤ 4) ⌝ }
-{
-    value_len(dx) + value_len(dy)
-}
-
-// A step of a stitch.
-fn pec_value(z: i32, out: &mut [u8], at: usize) -> usize
-    requires { ⌜ natAbs z ≤ 2048 ⌝ }
-    requires { ⌜ at + length (pecValue z) ≤ length (now out) ⌝ }
-    ensures { λ r. ⌜ Put (now (out .entry)) (now (out .exit)) at r (pecValue z) ⌝ }
-{
-    if is_short(z) {
-        return put(out, at, low7(z));
-    }
-    put_wide(0x80, z, out, at)
-}
-
-// The two steps of a stitch.
-fn put_steps(dx: i32, dy: i32, out: &mut [u8], at: usize) -> usize
-    requires { ⌜ Step dx dy ⌝ }
-    requires { ⌜ at + length (pecValue dx ++ pecValue dy) ≤ length (now out) ⌝ }
-    ensures { λ r. ⌜ Put (now (out .entry)) (now (out .exit)) at r (pecValue dx ++ pecValue dy) ⌝ }
-{
-    if steps_len(dx, dy) == 2 {
-        return put2(out, at, low7(dx), low7(dy));
-    }
-    let y = pec_value(dx, out, at);
-    pec_value(dy, out, y)
-}
-
-// Whether a stitch 00 00 goes before a stitch that moves on both axes.
-fn pauses(jumped: bool, dx: i32, dy: i32) -> bool
-    ensures { λ r. ⌜ r ≡ (jumped && (not (eqZ dx (pos 0)) && not (eqZ dy (pos 0)))) ⌝ }
-{
-    if !jumped {
-        return false;
-    }
-    if dx == 0 {
-        return false;
-    }
-    dy != 0
-}
-
-fn put_pause(needed: bool, out: &mut [u8], at: usize) -> usize
-    requires { ⌜ at + length (pause needed) ≤ length (now out) ⌝ }
-    ensures { λ r. ⌜ Put (now (out .entry)) (now (out .exit)) at r (pause needed) ⌝ }
-{
-    if needed {
-        return put2(out, at, 0x00, 0x00);
-    }
-    at
-}
-
-fn pause_len(needed: bool) -> usize
-    ensures { λ r. ⌜ (r ≡ length (pause needed)) × (r ≤ 2) ⌝ }
-{
-    if needed {
-        return 2;
-    }
-    0
-}
-
-fn put_stitch(s: State, dx: i32, dy: i32, out: &mut [u8], at: usize) -> usize
-    requires { ⌜ Step dx dy ⌝ }
-    requires { ⌜ at + length (pecCmd (stateOf s) Stitch dx dy) ≤ length (now out) ⌝ }
-    ensures { λ r. ⌜ Put (now (out .entry)) (now (out .exit)) at r (pecCmd (stateOf s) Stitch dx dy) ⌝ }
-{
-    let x = put_pause(pauses(s.jumped, dx, dy), out, at);
-    let y = pec_value(dx, out, x);
-    pec_value(dy, out, y)
-}
-
-// The flag of a jump: another for one that opens the list.
-fn flag(opening: bool) -> u8
-    ensures { λ r. ⌜ (r ≡ pick opening 0x90 0xA0) × (r ≤ 240) ⌝ }
-{
-    if opening {
-        return 0x90;
-    }
-    0xA0
-}
-
-fn put_jump(s: State, dx: i32, dy: i32, out: &mut [u8], at: usize) -> usize
-    requires { ⌜ Step dx dy ⌝ }
-    requires { ⌜ at + 4 ≤ length (now out) ⌝ }
-    ensures { λ r. ⌜ Put (now (out .entry)) (now (out .exit)) at r (pecCmd (stateOf s) Jump dx dy) ⌝ }
-{
-    let f = flag(s.opening);
-    let y = put_wide(f, dx, out, at);
-    put_wide(f, dy, out, y)
-}
-
-fn color_byte(two: bool) -> u8
-    ensures { λ r. ⌜ r ≡ pick two 0x02 0x01 ⌝ }
-{
-    if two {
-        return 0x02;
-    }
-    0x01
-}
-
-fn put_change(s: State, out: &mut [u8], at: usize) -> usize
-    requires { ⌜ at + length (pecCmd (stateOf s) ColorChange (pos 0) (pos 0)) ≤ length (now out) ⌝ }
-    ensures { λ r. ⌜ Put (now (out .entry)) (now (out .exit)) at r (pecCmd (stateOf s) ColorChange (pos 0) (pos 0)) ⌝ }
-{
-    let change = put_pause(s.jumped, out, at);
-    put3(out, change, 0xFE, 0xB0, color_byte(s.two))
-}
-
-// The bytes that a command takes.
-fn cmd_len(s: State, op: Op, dx: i32, dy: i32) -> usize
-    ensures { λ r. ⌜ (r ≡ length (pecCmd (stateOf s) op dx dy)) × (r ≤ 6) ⌝ }
-{
-    match op {
-        Op::Stitch => pause_len(pauses(s.jumped, dx, dy)) + value_len(dx) + value_len(dy),
-        Op::Jump => 4,
-        Op::Trim => 0,
-        Op::ColorChange => pause_len(s.jumped) + 3,
-        Op::End => 1,
-    }
-}
-
-fn put_cmd(s: State, op: Op, dx: i32, dy: i32, out: &mut [u8], at: usize) -> usize
-    requires { ⌜ Step dx dy ⌝ }
-    requires { ⌜ at + length (pecCmd (stateOf s) op dx dy) ≤ length (now out) ⌝ }
-    ensures { λ r. ⌜ Put (now (out .entry)) (now (out .exit)) at r (pecCmd (stateOf s) op dx dy) ⌝ }
-{
-    match op {
-        Op::Stitch => put_stitch(s, dx, dy, out, at),
-        Op::Jump => put_jump(s, dx, dy, out, at),
-        Op::Trim => at,
-        Op::ColorChange => put_change(s, out, at),
-        Op::End => put(out, at, 0xFF),
-    }
-}
-
-// A step between two places that are near each other.
-fn step(from: i32, to: i32) -> i32
-    requires { ⌜ natAbs (to -ℤ from) ≤ 2048 ⌝ }
-    ensures { λ r. ⌜ r ≡ to -ℤ from ⌝ }
-{
-    to - from
-}
+ghost use Rattle.pec.specs.Shorts.{ShortAt, Shorts, pairs};
 
 // A stitch that follows a stitch or a colour change: no stitch 00 00 goes before it.
 fn is_going(kind: u8, jumped: bool) -> bool
@@ -263,6 +32,95 @@ fn is_going(kind: u8, jumped: bool) -> bool
         return false;
     }
     kind == 0
+}
+
+// Whether the command at i is a stitch whose two steps take one byte each.
+fn is_short_at(xs: &[i32], ys: &[i32], kinds: &[u8], i: usize) -> bool
+    requires { ⌜ (0 < i) × (i < length (commands (now xs) (now ys) (now kinds))) ⌝ }
+    requires { ⌜ stepTooLong Pec (commands (now xs) (now ys) (now kinds)) ≡ false ⌝ }
+    ensures { λ r. ⌜ (r ≡ true → ShortAt (now (xs .entry)) (now (ys .entry)) (now (kinds .entry)) i) ⌝ }
+{
+    let dx = step(xs[i - 1], xs[i]);
+    let dy = step(ys[i - 1], ys[i]);
+    is_short(dx) & is_short(dy) & (kinds[i] == 0)
+}
+
+// Whether the eight commands from i on are such stitches.
+fn are_short(xs: &[i32], ys: &[i32], kinds: &[u8], i: usize) -> bool
+    requires { ⌜ (0 < i) × (i + 8 ≤ length (commands (now xs) (now ys) (now kinds))) ⌝ }
+    requires { ⌜ stepTooLong Pec (commands (now xs) (now ys) (now kinds)) ≡ false ⌝ }
+    ensures { λ r. ⌜ (r ≡ true → Shorts (now (xs .entry)) (now (ys .entry)) (now (kinds .entry)) i (i + 8)) ⌝ }
+{
+    let mut all = true;
+    let mut k = i;
+    while k < i + 8 {
+        all = all & is_short_at(xs, ys, kinds, k);
+        k += 1;
+    }
+    all
+}
+
+// The end of the stitches from i on, taken by eights, whose steps take one byte each.
+fn short_till(xs: &[i32], ys: &[i32], kinds: &[u8], i: usize) -> usize
+    requires { ⌜ (0 < i) × (i ≤ length (commands (now xs) (now ys) (now kinds))) ⌝ }
+    requires { ⌜ stepTooLong Pec (commands (now xs) (now ys) (now kinds)) ≡ false ⌝ }
+    ensures { λ r. ⌜ (i ≤ r) × ((r ≤ length (commands (now (xs .entry)) (now (ys .entry)) (now (kinds .entry)))) × Shorts (now (xs .entry)) (now (ys .entry)) (now (kinds .entry)) i r) ⌝ }
+{
+    let n = list_len(xs, ys, kinds);
+    let mut k = i;
+    while k + 8 <= n {
+        if !are_short(xs, ys, kinds, k) {
+            return k;
+        }
+        k += 8;
+    }
+    k
+}
+
+// The bytes of such stitches, from i to before j.
+fn put_shorts(
+    xs: &[i32],
+    ys: &[i32],
+    kinds: &[u8],
+    i: usize,
+    j: usize,
+    out: &mut [u8],
+    at: usize,
+) -> usize
+    requires { ⌜ (0 < i) × ((i ≤ j) × (j ≤ length (commands (now xs) (now ys) (now kinds)))) ⌝ }
+    requires { ⌜ Shorts (now xs) (now ys) (now kinds) i j ⌝ }
+    requires { ⌜ at + 2 * (j - i) ≤ length (now out) ⌝ }
+    ensures { λ r. ⌜ Put (now (out .entry)) (now (out .exit)) at r (pairs (now (xs .entry)) (now (ys .entry)) i (j - i)) ⌝ }
+{
+    let mut k = i;
+    let mut to = at;
+    while k < j {
+        let dx = step(xs[k - 1], xs[k]);
+        let dy = step(ys[k - 1], ys[k]);
+        to = put2(out, to, low7(dx), low7(dy));
+        k += 1;
+    }
+    to
+}
+
+// Whether to look for such stitches: not where a stitch 00 00 may go before, and not soon after the last look.
+fn looks(jumped: bool, wait: usize) -> bool
+    ensures { λ r. ⌜ r ≡ (not jumped && eqb wait 0) ⌝ }
+{
+    if jumped {
+        return false;
+    }
+    wait == 0
+}
+
+// One less, down to 0.
+fn one_less(wait: usize) -> usize
+    ensures { λ r. ⌜ r ≤ wait ⌝ }
+{
+    if wait == 0 {
+        return 0;
+    }
+    wait - 1
 }
 
 // The bytes that all commands take.
@@ -276,7 +134,18 @@ pub fn pec_len(xs: &[i32], ys: &[i32], kinds: &[u8]) -> usize
     let mut y: i32 = 0;
     let mut total = 0;
     let mut i = 0;
+    let mut wait = 0;
     while i < n {
+        if looks(s.jumped, wait) {
+            let end = short_till(xs, ys, kinds, i);
+            total += 2 * (end - i);
+            x = xs[end - 1];
+            y = ys[end - 1];
+            i = end;
+            wait = 8;
+            continue;
+        }
+        wait = one_less(wait);
         let kind = kinds[i];
         let nx = xs[i];
         let ny = ys[i];
@@ -308,7 +177,18 @@ pub fn pec_encode(xs: &[i32], ys: &[i32], kinds: &[u8], out: &mut [u8], at: usiz
     let mut y: i32 = 0;
     let mut to = at;
     let mut i = 0;
+    let mut wait = 0;
     while i < n {
+        if looks(s.jumped, wait) {
+            let end = short_till(xs, ys, kinds, i);
+            to = put_shorts(xs, ys, kinds, i, end, out, to);
+            x = xs[end - 1];
+            y = ys[end - 1];
+            i = end;
+            wait = 8;
+            continue;
+        }
+        wait = one_less(wait);
         let kind = kinds[i];
         let nx = xs[i];
         let ny = ys[i];

@@ -8,7 +8,7 @@ use emit::put2;
 use emit::put3;
 use emit::put4;
 use emit::spread;
-use formats::stream_bounds;
+use geom::Bounds;
 use palette::unique_palette;
 use pec::pec_encode;
 use thumbnails::put_icons;
@@ -25,6 +25,7 @@ ghost use Rattle.rules.specs.Pec.{pecStart, pecStitches, uniquePalette, pecColo
 ghost use Rattle.rules.specs.Refusals.{stepTooLong};
 ghost use Rattle.rules.specs.declared.Format.the-variants.{Pec};
 ghost use Rattle.laws.specs.Buffers.{Put};
+ghost use Rattle.geom.specs.Frames.{boundsOf};
 ghost use Rattle.pec_part.specs.Parts.{labelText, sizesText, partLong};
 
 // Bytes of a name that stay.
@@ -149,6 +150,7 @@ fn put_sizes(n: usize, w: u32, h: u32, out: &mut [u8], at: usize) -> usize
 
 // Writes the part from `at` on; n is how many bytes the stitches take.
 pub fn write_pec(
+    b: Bounds,
     name: &[u8],
     xs: &[i32],
     ys: &[i32],
@@ -158,18 +160,18 @@ pub fn write_pec(
     out: &mut [u8],
     at: usize,
 ) -> usize
+    requires { ⌜ b ≡ boundsOf (commands (now xs) (now ys) (now kinds)) ⌝ }
     requires { ⌜ (length (now kinds) ≤ 65535) × ((length (now threads) ≤ 765) × (stepTooLong Pec (commands (now xs) (now ys) (now kinds)) ≡ false)) ⌝ }
     requires { ⌜ n ≡ length (pecStitches pecStart (pos 0) (pos 0) (commands (now xs) (now ys) (now kinds))) ⌝ }
     requires { ⌜ at + length (pecPart (now name) (commands (now xs) (now ys) (now kinds)) (threadsOf (now threads))) ≤ length (now out) ⌝ }
     ensures { λ r. ⌜ Put (now (out .entry)) (now (out .exit)) at r (pecPart (now (name .entry)) (commands (now (xs .entry)) (now (ys .entry)) (now (kinds .entry))) (threadsOf (now (threads .entry)))) ⌝ }
 {
-    let b = stream_bounds(xs, ys, kinds);
     let w = spread(b.min.x, b.max.x);
     let h = spread(b.min.y, b.max.y);
     let block = put_header(name, threads, out, at);
     let stitches = put_sizes(n, w, h, out, block);
     let pictures = pec_encode(xs, ys, kinds, out, stitches);
-    put_icons(xs, ys, kinds, out, pictures)
+    put_icons(b, xs, ys, kinds, out, pictures)
 }
 
 // How long the part is, its stitches taking n bytes.

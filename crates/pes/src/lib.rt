@@ -1,8 +1,11 @@
 // PEC and PES files.
 use checks::check_list;
+use codes::thread_codes;
 use emit::put_short;
 use emit::put_text;
 use emit::put_word;
+use formats::stream_bounds;
+use geom::Bounds;
 use pec::pec_len;
 use pec_part::part_len;
 use pec_part::write_pec;
@@ -26,12 +29,15 @@ ghost use Rattle.rules.specs.Refusals.{placeOutside, stepTooLong};
 ghost use Rattle.rules.specs.declared.Extension.the-variants.{Of};
 ghost use Rattle.rules.specs.declared.Format.the-variants.{Pes, Pec};
 ghost use Rattle.laws.specs.Buffers.{Put};
+ghost use Rattle.geom.specs.Frames.{boundsOf};
+ghost use Rattle.codes.specs.Codes.{Coded};
 ghost use Rattle.emit.specs.Answered.{Answered};
 ghost use Rattle.sections.specs.States.{measures};
 ghost use Rattle.pes.specs.Lists.{Drawn, startText};
 
 // A whole PEC file; n is how many bytes the stitches take.
 fn put_pec_file(
+    b: Bounds,
     name: &[u8],
     xs: &[i32],
     ys: &[i32],
@@ -40,12 +46,13 @@ fn put_pec_file(
     n: usize,
     out: &mut [u8],
 ) -> usize
+    requires { ⌜ b ≡ boundsOf (commands (now xs) (now ys) (now kinds)) ⌝ }
     requires { ⌜ Drawn (commands (now xs) (now ys) (now kinds)) (now kinds) (now threads) n ⌝ }
     requires { ⌜ length (pecFile (now name) (commands (now xs) (now ys) (now kinds)) (threadsOf (now threads))) ≤ length (now out) ⌝ }
     ensures { λ r. ⌜ Put (now (out .entry)) (now (out .exit)) 0 r (pecFile (now (name .entry)) (commands (now (xs .entry)) (now (ys .entry)) (now (kinds .entry))) (threadsOf (now (threads .entry)))) ⌝ }
 {
     let part = put_text(out, 0, b"#PEC0001");
-    write_pec(name, xs, ys, kinds, threads, n, out, part)
+    write_pec(b, name, xs, ys, kinds, threads, n, out, part)
 }
 
 // The file, or refusal 11.
@@ -65,7 +72,8 @@ fn pec_accepted(
     if out.len() < long {
         return WriteAnswer::Unwritten(Refusal::BufferTooShort);
     }
-    WriteAnswer::Written(put_pec_file(name, xs, ys, kinds, threads, n, out))
+    let b = stream_bounds(xs, ys, kinds);
+    WriteAnswer::Written(put_pec_file(b, name, xs, ys, kinds, threads, n, out))
 }
 
 // Writes a list as a PEC file to the front of the buffer: its length; or why it is refused, and the buffer as it was.
@@ -103,15 +111,19 @@ fn put_start(start: u32, out: &mut [u8]) -> usize
 
 // A whole PES file; z holds the sizes of its sections, and n is how many bytes the stitches take.
 fn put_pes_file(
+    b: Bounds,
     name: &[u8],
     xs: &[i32],
     ys: &[i32],
     kinds: &[u8],
+    codes: &[u8; 256],
     threads: &[u8],
     z: Sizes,
     n: usize,
     out: &mut [u8],
 ) -> usize
+    requires { ⌜ b ≡ boundsOf (commands (now xs) (now ys) (now kinds)) ⌝ }
+    requires { ⌜ Coded (threadsOf (now threads)) (now codes) ⌝ }
     requires { ⌜ Drawn (commands (now xs) (now ys) (now kinds)) (now kinds) (now threads) n ⌝ }
     requires { ⌜ (placeOutside (commands (now xs) (now ys) (now kinds)) ≡ false) × ((measures (threadsOf (now threads)) (commands (now xs) (now ys) (now kinds)) z) × ((z .bytes ≤ 1048560) × (z .logged ≤ 65535))) ⌝ }
     requires { ⌜ length (pesFile (now name) (commands (now xs) (now ys) (now kinds)) (threadsOf (now threads))) ≤ length (now out) ⌝ }
@@ -119,8 +131,8 @@ fn put_pes_file(
 {
     let long = blocks_len(z);
     let blocks = put_start((22 + long) as u32, out);
-    let part = write_pes_blocks(xs, ys, kinds, threads, z, out, blocks);
-    write_pec(name, xs, ys, kinds, threads, n, out, part)
+    let part = write_pes_blocks(b, xs, ys, kinds, codes, threads, z, out, blocks);
+    write_pec(b, name, xs, ys, kinds, threads, n, out, part)
 }
 
 // The file, or refusal 11.
@@ -136,13 +148,15 @@ fn pes_accepted(
     requires { ⌜ placeOutside (commands (now xs) (now ys) (now kinds)) ≡ false ⌝ }
     ensures { λ r. ⌜ Answered (pesFile (now (name .entry)) (commands (now (xs .entry)) (now (ys .entry)) (now (kinds .entry))) (threadsOf (now (threads .entry)))) (now (out .entry)) (now (out .exit)) r ⌝ }
 {
-    let z = measured(threads, xs, ys, kinds);
+    let codes = thread_codes(threads);
+    let z = measured(&codes, threads, xs, ys, kinds);
     let n = pec_len(xs, ys, kinds);
     let long = 22 + blocks_len(z) + part_len(xs, ys, kinds, threads, n);
     if out.len() < long {
         return WriteAnswer::Unwritten(Refusal::BufferTooShort);
     }
-    WriteAnswer::Written(put_pes_file(name, xs, ys, kinds, threads, z, n, out))
+    let b = stream_bounds(xs, ys, kinds);
+    WriteAnswer::Written(put_pes_file(b, name, xs, ys, kinds, &codes, threads, z, n, out))
 }
 
 // Writes a list as a PES file to the front of the buffer: its length; or why it is refused, and the buffer as it was.

@@ -21,7 +21,8 @@ use Rattle.laws.specs.Little.{length-little}
 use Rattle.laws.specs.Places.{Small, apart, every, small-minX, small-maxY}
 use Rattle.geom.specs.Frames.{boundsOf}
 use Rattle.geom.specs.declared.Bounds.{Bounds}
-use Rattle.sections.specs.States.{Near, placed}
+use Rattle.pes_cmd.specs.States.{Near}
+use Rattle.sections.specs.States.{placed}
 use Rattle.pes_blocks.specs.Parts.{embText, matrixText, sizesText, segText, frameText, endText}
 
 -- ---- lengths

@@ -4,7 +4,7 @@ use emit::put_text;
 use emit::put_times;
 use emit::put_word;
 use emit::spread;
-use formats::stream_bounds;
+use geom::Bounds;
 use sections::Sizes;
 use sections::put_log;
 use sections::put_sections;
@@ -17,6 +17,8 @@ ghost use Rattle.rules.specs.Lists.{commands, threadsOf};
 ghost use Rattle.rules.specs.Pes.{halves, matrixField, pesBlocks};
 ghost use Rattle.rules.specs.Refusals.{placeOutside};
 ghost use Rattle.laws.specs.Buffers.{Put};
+ghost use Rattle.geom.specs.Frames.{boundsOf};
+ghost use Rattle.codes.specs.Codes.{Coded};
 ghost use Rattle.sections.specs.States.{measures};
 ghost use Rattle.pes_blocks.specs.Parts.{embText, matrixText, sizesText, segText, frameText, endText};
 
@@ -100,6 +102,7 @@ fn put_frame(w: u32, h: u32, n: usize, out: &mut [u8], at: usize) -> usize
 
 // The colour log, how many entries it has before it, and two zeros behind it.
 fn put_end(
+    codes: &[u8; 256],
     threads: &[u8],
     xs: &[i32],
     ys: &[i32],
@@ -108,12 +111,13 @@ fn put_end(
     out: &mut [u8],
     at: usize,
 ) -> usize
+    requires { ⌜ Coded (threadsOf (now threads)) (now codes) ⌝ }
     requires { ⌜ length (now kinds) ≤ 65535 ⌝ }
     requires { ⌜ at + length (endText n (threadsOf (now threads)) (commands (now xs) (now ys) (now kinds))) ≤ length (now out) ⌝ }
     ensures { λ r. ⌜ Put (now (out .entry)) (now (out .exit)) at r (endText n (threadsOf (now (threads .entry))) (commands (now (xs .entry)) (now (ys .entry)) (now (kinds .entry)))) ⌝ }
 {
     let log = put_short(out, at, n);
-    let zeros = put_log(threads, xs, ys, kinds, out, log);
+    let zeros = put_log(codes, threads, xs, ys, kinds, out, log);
     put_times(out, zeros, 0x00, 4)
 }
 
@@ -127,23 +131,26 @@ pub fn blocks_len(z: Sizes) -> usize
 
 // Writes the blocks from `at` on; z holds their sizes.
 pub fn write_pes_blocks(
+    b: Bounds,
     xs: &[i32],
     ys: &[i32],
     kinds: &[u8],
+    codes: &[u8; 256],
     threads: &[u8],
     z: Sizes,
     out: &mut [u8],
     at: usize,
 ) -> usize
+    requires { ⌜ b ≡ boundsOf (commands (now xs) (now ys) (now kinds)) ⌝ }
+    requires { ⌜ Coded (threadsOf (now threads)) (now codes) ⌝ }
     requires { ⌜ (length (now kinds) ≤ 65535) × (placeOutside (commands (now xs) (now ys) (now kinds)) ≡ false) ⌝ }
     requires { ⌜ measures (threadsOf (now threads)) (commands (now xs) (now ys) (now kinds)) z ⌝ }
     requires { ⌜ at + length (pesBlocks (commands (now xs) (now ys) (now kinds)) (threadsOf (now threads))) ≤ length (now out) ⌝ }
     ensures { λ r. ⌜ Put (now (out .entry)) (now (out .exit)) at r (pesBlocks (commands (now (xs .entry)) (now (ys .entry)) (now (kinds .entry))) (threadsOf (now (threads .entry)))) ⌝ }
 {
-    let b = stream_bounds(xs, ys, kinds);
     let w = spread(b.min.x, b.max.x);
     let h = spread(b.min.y, b.max.y);
     let first = put_frame(w, h, z.sections, out, at);
-    let end = put_sections(b.min.x, b.max.y, threads, xs, ys, kinds, out, first);
-    put_end(threads, xs, ys, kinds, z.logged, out, end)
+    let end = put_sections(b.min.x, b.max.y, codes, threads, xs, ys, kinds, out, first);
+    put_end(codes, threads, xs, ys, kinds, z.logged, out, end)
 }

@@ -15,8 +15,8 @@ use Rattle.rules.specs.declared.ReadAnswer.{ReadAnswer}
 use Rattle.rules.specs.declared.Slot.{Slot}
 use Rattle.rules.specs.declared.Slot.the-variants.{Empty, Thread}
 use Rattle.header.specs.Colors.{Held, Stored}
-use Rattle.passes.proofs.Colours.{cell}
-use Rattle.passes.specs.Colour.{colourIn}
+use Rattle.builder.proofs.Colours.{cell}
+use Rattle.builder.specs.Colour.{colourIn}
 use Rattle.read.specs.Answered.{Answered}
 
 -- blocks ask for colours by number only

@@ -24,7 +24,7 @@ ghost use Rattle.rules.specs.Files.{stitchBytes, pecColor, orDefault, colourOf,
 ghost use Rattle.rules.specs.Refusals.{extensionOf};
 ghost use Rattle.rules.specs.declared.Extension.the-variants.{Of};
 ghost use Rattle.rules.specs.declared.Format.the-variants.{Pec, Dst, Exp, Jef};
-ghost use Rattle.passes.specs.Colour.{colourIn};
+ghost use Rattle.builder.specs.Colour.{colourIn};
 ghost use Rattle.read.specs.Answered.{Answered, Opened, roomFor};
 
 // Whether the answers fit: refusal 11 if not.

@@ -45,7 +45,7 @@ fn jef(case: &[u8]) -> bool {
     let mut i = 0;
     while i < n {
         let t = color(case, 2 + 3 * i);
-        let k = more::jef_choice(last, t);
+        let k = choices::jef_choice(last, t);
         if k != byte(case, 2 + 3 * n + i) as usize {
             return false;
         }

@@ -1,48 +1,37 @@
--- A distance of 16 bits: the difference as the code has it, and its two's complement; a command of a list is near the edges. Assumes nothing.
-use Prim.Native.Nat.{ℕ, _+_, _-_, _%_, _≤_, _<_}
-use mathlib.Core.Path.{_≡_}
-use mathlib.Core.List.{List}
+-- A command of a list is near the edges; places in a row. Assumes nothing.
+use Prim.Native.Nat.{ℕ, zero, suc, _+_, _-_, _*_, _≤_, _<_}
+use mathlib.Core.Path.{_≡_, refl, _∙_}
+use mathlib.Core.List.{List, [], _++_}
+use native.Mathlib.Numerals.{add-one}
 use native.Mathlib.Omega.{arith}
-use lib.IntN.{ℤ, pos, negsuc, natAbs, _+ℤ_, _-ℤ_}
-use lib.ListN.{length, getD}
-use mir.Syntax.{w32}
-use mir.Val.{SFits, toZ, ofZ}
-use Rattle.rules.specs.Vocabulary.{bitsOf}
+use lib.IntN.{ℤ, pos}
+use lib.ListN.{length, getD, length-append}
 use Rattle.rules.specs.Lists.{commands}
-use Rattle.laws.specs.Ints.{up, dn, ints, abs-is, seen, sub-law}
+use Rattle.rules.specs.Pes.{pesPoint}
+use Rattle.laws.specs.Lengths.{length-point}
 use Rattle.laws.specs.Listing.{commands-at}
-use Rattle.sections.specs.States.{Near, placed}
-
--- a number as the code has it, through its bits
-abbrev pub back : ℤ → ℤ
-back z = toZ w32 (ofZ w32 z)
-
--- z + 65536
-abbrev pub over : ℤ → ℕ
-over z = up z + 65536 - dn z
-
-pub sixteen : (z : ℤ) → natAbs z ≤ 32767 → bitsOf 15 z ≡ over z % 65536
-unfolding bitsOf
-sixteen (pos n) h = omega arith
-sixteen (negsuc n) h = omega arith
-
--- the sum as the code has it
-module _ {z : ℤ} (f : SFits w32 z) (h : natAbs z ≤ 32767) where
-  pub over-fits : SFits w32 (back z +ℤ pos 65536)
-  over-fits = omega (ints, seen f, abs-is z)
-
-  pub over-is : back (back z +ℤ pos 65536) ≡ pos (over z)
-  over-is = let k = over-fits in omega (ints, seen f, abs-is z)
-
--- the difference
-module _ {a b : ℤ} (f : SFits w32 a) (g : SFits w32 b) (h : natAbs (a -ℤ b) ≤ 32767) where
-  pub diff-fits : SFits w32 (back a -ℤ back b)
-  diff-fits = omega (ints, seen f, seen g, abs-is (a -ℤ b), sub-law a b)
-
-  pub diff-is : back (back a -ℤ back b) ≡ a -ℤ b
-  diff-is = let k = diff-fits in omega (ints, seen f, seen g)
+use Rattle.pes_cmd.specs.States.{Near}
+use Rattle.sections.specs.Alike.{points}
+use Rattle.sections.specs.States.{placed}
 
 -- the command at i is near
 pub near-at : {left bottom : ℤ} (xs ys : List ℤ) (ks : List ℕ) (i : ℕ) → placed left bottom (commands xs ys ks) → i < length (commands xs ys ks)
     → Near left bottom (getD xs i (pos 0)) (getD ys i (pos 0))
 near-at xs ys ks i p l = rw (commands-at xs ys ks i l) at (p i l)
+
+-- places in a row: how many bytes, one more place, and no more
+module _ (left bottom : ℤ) (xs ys : List ℤ) where
+  pub points-long : (i n : ℕ) → length (points left bottom xs ys i n) ≡ 4 * n
+  unfolding points
+  points-long i zero = refl
+  points-long i (suc n) = length-append (pesPoint left bottom (getD xs i (pos 0)) (getD ys i (pos 0))) _
+      ∙ omega (arith, length-point left bottom (getD xs i (pos 0)) (getD ys i (pos 0)), points-long (suc i) n)
+
+  module _ (i j : ℕ) where
+    pub points-more : i < j → points left bottom xs ys i (j - i) ≡ pesPoint left bottom (getD xs i (pos 0)) (getD ys i (pos 0)) ++ points left bottom xs ys (i + 1) (j - (i + 1))
+    unfolding points
+    points-more l = let e : j - i ≡ suc (j - (i + 1)) = omega arith in rw (e, add-one)
+
+    pub points-none : j ≤ i → points left bottom xs ys i (j - i) ≡ []
+    unfolding points
+    points-none l = let e : j - i ≡ 0 = omega arith in rw e

@@ -1,9 +1,9 @@
--- The run of one kind that begins at a command: its length by one command more, and the place of its last command. Assumes nothing.
-use Prim.Native.Nat.{ℕ, suc, _+_, _-_, _≤_, _<_}
+-- The run of one kind that begins at a command: its length by one command more, its commands, and the place of the last one. Assumes nothing.
+use Prim.Native.Nat.{ℕ, zero, suc, _+_, _-_, _≤_, _<_}
 use mathlib.Core.Path.{_≡_, refl, sym, ap, _∙_}
 use mathlib.Core.List.{List, [], _∷_}
 use native.Mathlib.Omega.{arith}
-use borrow.Author.Tests.{eq-eqb, ne-eqb}
+use borrow.Author.Tests.{eqb-true, eq-eqb, ne-eqb}
 use lib.Dec.{eqb}
 use lib.IntN.{ℤ, pos}
 use lib.ListN.{length, drop, getD, length-drop}
@@ -13,6 +13,7 @@ use Rattle.rules.specs.Pes.{runLength, runX, runY}
 use Rattle.rules.specs.declared.Cmd.{Cmd}
 use Rattle.laws.specs.Tests.{by-test}
 use Rattle.laws.specs.Listing.{cmdAt, noCmd, commands-at, commands-more, list-end}
+use Rattle.sections.specs.Alike.{Alike}
 
 module _ (k : ℕ) where
   -- a run is within the list
@@ -20,6 +21,15 @@ module _ (k : ℕ) where
   unfolding runLength
   run-within [] = omega arith
   run-within (c ∷ cs) = by-test (eqb (c .kind) k) (λ e. rw e (omega (arith, run-within cs))) (λ e. rw e (omega arith))
+
+  -- each of its commands is of the kind
+  run-kind : (cs : List Cmd) (n : ℕ) → n < runLength k cs → getD cs n noCmd .kind ≡ k
+  unfolding runLength
+  run-kind [] n l = absurd (omega arith)
+  run-kind (c ∷ cs) zero l = by-test (eqb (c .kind) k) (λ e. eqb-true (c .kind) k e) (λ e. absurd (omega (arith, rw e at l)))
+  run-kind (c ∷ cs) (suc n) l = by-test (eqb (c .kind) k)
+      (λ e. let h = rw e at l in run-kind cs n (omega (arith, h)))
+      (λ e. absurd (omega (arith, rw e at l)))
 
   -- where the run behind c leaves the needle
   last-x : (c : Cmd) (cs : List Cmd) → runX k (c .x) cs ≡ getD (c ∷ cs) (runLength k cs) noCmd .x
@@ -63,6 +73,18 @@ module _ (xs ys : List ℤ) (ks : List ℕ) (i : ℕ) where
 
     pub run-inside : i + runFrom - 1 < length cs
     run-inside = omega (arith, run-some, run-within kind (drop i cs), length-drop i cs)
+
+    -- from i to its end
+    pub run-span : {j : ℕ} → j ≡ i + runFrom → (i < j) × (j ≤ length cs)
+    run-span e = (omega (arith, run-some), omega (arith, run-some, run-inside))
+
+    pub run-alike : Alike ks kind i (i + runFrom)
+    run-alike n a b =
+        let m = n - i in
+        let there : i + m ≡ n = omega arith in
+        sym (ap (λ (c : Cmd). c .kind) (commands-at xs ys ks n (omega (arith, run-inside))))
+        ∙ (rw there at (sym (ap (λ (c : Cmd). c .kind) (getD-drop i cs m noCmd))))
+        ∙ run-kind kind (drop i cs) m (omega arith)
 
     -- its last command is that many behind the one at i
     behind : getD (drop i cs) (runLength kind (drop (i + 1) cs)) noCmd ≡ cmdAt xs ys ks (i + runFrom - 1)

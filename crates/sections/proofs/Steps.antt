@@ -17,9 +17,11 @@ use Rattle.rules.specs.declared.Op.{Op}
 use Rattle.rules.specs.declared.Op.the-variants.{Stitch, Jump, Trim, ColorChange, End}
 use Rattle.laws.specs.Tests.{by-test}
 use Rattle.laws.specs.Listing.{cmdAt, commands-more, list-end}
-use Rattle.sections.specs.States.{movedTo, openLen, cmdLen, logs, measures}
 use Rattle.laws.specs.Lengths.{length-point}
-use Rattle.sections.proofs.Lengths.{gap, open-long, stitch-long, jump-long}
+use Rattle.pes_cmd.specs.States.{movedTo, openLen, cmdLen, logs}
+use Rattle.pes_cmd.proofs.Lengths.{gap, open-long}
+use Rattle.sections.specs.States.{measures}
+use Rattle.sections.proofs.Lengths.{stitch-long, jump-long}
 use Rattle.sections.proofs.Shorts.{shorts-append}
 
 -- ---- the bytes of a command
@@ -211,8 +213,9 @@ module _ (xs ys : List ℤ) (ks : List ℕ) (i : ℕ) (s : PesState) (ts : List 
       subst (λ (t : PesState). elsewhere ≡ movedTo t (elsewhere .x) (elsewhere .y)) (sym e)
       (next-moved ts s x y (newAt xs ys ks i s) (opOf (getD ks i 0)) (cmdAt xs ys ks i))
 
-pub within-on : {i : ℕ} {s : PesState} → Within i s → Within (i + 1) s
-within-on w = record { few-threads = omega (arith, w .few-threads); few-sections = omega (arith, w .few-sections) }
+-- further on, with no thread and no section more
+pub within-on : {i j : ℕ} {s : PesState} → Within i s → i ≤ j → (x y : ℤ) → Within j (movedTo s x y)
+within-on w l x y = record { few-threads = omega (arith, w .few-threads); few-sections = omega (arith, w .few-sections) }
 
 -- no more
 module _ (ts : List Color) (cs : List Cmd) (i : ℕ) (l : length cs ≤ i) where

@@ -12,14 +12,19 @@ use Rattle.rules.specs.declared.Color.{Color}
 use Rattle.rules.specs.declared.Op.{Op}
 use Rattle.rules.specs.declared.Op.the-variants.{Stitch, Jump, Trim, ColorChange, End}
 use Rattle.laws.specs.Listing.{cmdAt, commands-more, list-end}
-use Rattle.sections.specs.States.{Near, placed}
+use Rattle.pes_cmd.specs.States.{Near}
+use Rattle.sections.specs.States.{placed}
 use Rattle.sections.proofs.Points.{near-at}
 use Rattle.sections.proofs.Steps.{newAt, stateAfter, on-op}
+
+-- a state by another name
+pub near-as : {left bottom : ℤ} {s t : PesState} → t ≡ s → Near left bottom (s .x) (s .y) → Near left bottom (t .x) (t .y)
+near-as {left} {bottom} e p = subst (λ (t : PesState). Near left bottom (t .x) (t .y)) (sym e) p
 
 -- the state at first, as the code has it
 pub near-start : (left bottom : ℤ) (ts : List Color) {t : PesState} → t ≡ pesStart ts → Near left bottom (pos 0) (pos 0) → Near left bottom (t .x) (t .y)
 unfolding pesStart
-near-start left bottom ts e p = subst (λ (t : PesState). Near left bottom (t .x) (t .y)) (sym e) p
+near-start left bottom ts e p = near-as e p
 
 module _ (left bottom : ℤ) (ts : List Color) (s : PesState) where
   -- the place of the last stitch is the one that was, or the command's
@@ -60,4 +65,4 @@ module _ (left bottom : ℤ) (ts : List Color) (s : PesState) where
 
       -- the state after it, as the code has it
       pub near-after : {t : PesState} → t ≡ stateAfter xs ys ks i s ts → Near left bottom (s .x) (s .y) → placed left bottom cs → Near left bottom (t .x) (t .y)
-      near-after e p q = subst (λ (t : PesState). Near left bottom (t .x) (t .y)) (sym e) (near-next _ _ _ p (near-at xs ys ks i q l))
+      near-after e p q = near-as e (near-next _ _ _ p (near-at xs ys ks i q l))

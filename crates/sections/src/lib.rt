@@ -1,161 +1,62 @@
 // PES: the sections of a design, and the log of their colours.
-use codes::code_at;
-use codes::thread_codes;
-use emit::put_short;
 use formats::list_len;
 use formats::op_of;
+use pes_cmd::State;
+use pes_cmd::cmd_len;
+use pes_cmd::goes_on;
+use pes_cmd::is_logged;
+use pes_cmd::is_new;
+use pes_cmd::last_code;
+use pes_cmd::moved;
+use pes_cmd::next;
+use pes_cmd::one_if;
+use pes_cmd::put_entry;
+use pes_cmd::put_open;
+use pes_cmd::put_point;
+use pes_cmd::start;
 use rules::Op;
 ghost use mathlib.Core.Path.{_≡_};
-ghost use mathlib.Core.Bool.{true, false, not};
-ghost use mathlib.Core.List.{[], _∷_};
-ghost use Prim.Native.Nat.{_+_, _<_, _≤_};
-ghost use lib.Dec.{eqb};
-ghost use lib.IntN.{pos, natAbs};
+ghost use mathlib.Core.Bool.{true};
+ghost use Prim.Native.Nat.{_+_, _-_, _*_, _<_, _≤_};
+ghost use lib.IntN.{pos};
 ghost use lib.ListN.{length, drop, getD};
-ghost use Rattle.rules.specs.Vocabulary.{pick, bitsOf, little};
 ghost use Rattle.rules.specs.Lists.{opOf, commands, threadsOf};
-ghost use Rattle.rules.specs.Pes.{runLength, pesStart, pesNext, pesPoint, pesOpen, pesCmd, pesSections, opensSection, colorLog, shorts};
-ghost use Rattle.rules.specs.declared.Op.the-variants.{Stitch, Jump, ColorChange};
+ghost use Rattle.rules.specs.Pes.{runLength, pesStart, pesCmd, pesSections, colorLog, shorts};
+ghost use Rattle.rules.specs.declared.Op.the-variants.{Stitch, Jump};
 ghost use Rattle.laws.specs.Buffers.{Put};
 ghost use Rattle.laws.specs.Listing.{cmdAt};
 ghost use Rattle.codes.specs.Codes.{Coded};
-ghost use Rattle.sections.specs.States.{stateOf, movedTo, openLen, cmdLen, Near, placed, logs, measures};
+ghost use Rattle.pes_cmd.specs.States.{stateOf, Near};
+ghost use Rattle.sections.specs.Alike.{Alike, points};
+ghost use Rattle.sections.specs.States.{placed, measures};
 
-// Between two commands: the kind of the one before, the entry in use, the next thread, the place of the last stitch, the
-// sections so far.
-pub struct State {
-    pub before: u8,
-    pub code: usize,
-    pub thread: usize,
-    pub x: i32,
-    pub y: i32,
-    pub sections: usize,
+// Whether the eight commands from i on are of one kind.
+fn are_alike(kinds: &[u8], kind: u8, i: usize) -> bool
+    requires { ⌜ i + 8 ≤ length (now kinds) ⌝ }
+    ensures { λ r. ⌜ (r ≡ true → Alike (now (kinds .entry)) kind i (i + 8)) ⌝ }
+{
+    let mut all = true;
+    let mut k = i;
+    while k < i + 8 {
+        all = all & (kinds[k] == kind);
+        k += 1;
+    }
+    all
 }
 
-fn start(codes: &[u8; 256], threads: &[u8]) -> State
-    requires { ⌜ Coded (threadsOf (now threads)) (now codes) ⌝ }
-    ensures { λ r. ⌜ stateOf r ≡ pesStart (threadsOf (now (threads .entry))) ⌝ }
+// The end of the commands of one kind from i on, taken by eights, among the first n.
+fn alike_till(kinds: &[u8], kind: u8, i: usize, n: usize) -> usize
+    requires { ⌜ (i ≤ n) × (n ≤ length (now kinds)) ⌝ }
+    ensures { λ r. ⌜ (i ≤ r) × ((r ≤ n) × Alike (now (kinds .entry)) kind i r) ⌝ }
 {
-    State {
-        before: 4,
-        code: code_at(codes, threads, 0),
-        thread: 1,
-        x: 0,
-        y: 0,
-        sections: 0,
+    let mut k = i;
+    while k + 8 <= n {
+        if !are_alike(kinds, kind, k) {
+            return k;
+        }
+        k += 8;
     }
-}
-
-// 1 or 0.
-fn one_if(yes: bool) -> usize
-    ensures { λ r. ⌜ (r ≡ pick yes 1 0) × (r ≤ 1) ⌝ }
-{
-    if yes {
-        return 1;
-    }
-    0
-}
-
-// Whether a run opens: the kind is another than before.
-fn is_new(s: State, kind: u8) -> bool
-    ensures { λ r. ⌜ r ≡ not (eqb kind (s .before)) ⌝ }
-{
-    kind != s.before
-}
-
-// Whether it is a stitch of an open section.
-fn goes_on(new: bool, kind: u8) -> bool
-    ensures { λ r. ⌜ (r ≡ true → (new ≡ false) × (kind ≡ 0)) ⌝ }
-{
-    if new {
-        return false;
-    }
-    kind == 0
-}
-
-// After such a stitch.
-fn moved(s: State, x: i32, y: i32) -> State
-    ensures { λ r. ⌜ stateOf r ≡ movedTo (stateOf s) x y ⌝ }
-{
-    State {
-        before: s.before,
-        code: s.code,
-        thread: s.thread,
-        x,
-        y,
-        sections: s.sections,
-    }
-}
-
-// After a colour change: a run of them moves on by one thread.
-fn changed(
-    codes: &[u8; 256],
-    threads: &[u8],
-    s: State,
-    new: bool,
-    kind: u8,
-    x: i32,
-    y: i32,
-) -> State
-    requires { ⌜ Coded (threadsOf (now threads)) (now codes) ⌝ }
-    requires { ⌜ s .thread ≤ 65536 ⌝ }
-    ensures { λ r. ⌜ stateOf r ≡ pesNext (threadsOf (now (threads .entry))) (stateOf s) new ColorChange (record { x = x; y = y; kind = kind }) ⌝ }
-{
-    let code = s.code;
-    let thread = s.thread;
-    if new {
-        return State {
-            before: kind,
-            code: code_at(codes, threads, thread),
-            thread: thread + 1,
-            x: s.x,
-            y: s.y,
-            sections: s.sections,
-        };
-    }
-    State {
-        before: kind,
-        code,
-        thread,
-        x: s.x,
-        y: s.y,
-        sections: s.sections,
-    }
-}
-
-// After a command of a kind, which leads to (x, y).
-fn next(codes: &[u8; 256], threads: &[u8], s: State, new: bool, kind: u8, x: i32, y: i32) -> State
-    requires { ⌜ Coded (threadsOf (now threads)) (now codes) ⌝ }
-    requires { ⌜ (s .thread ≤ 65536) × (s .sections ≤ 65535) ⌝ }
-    ensures { λ r. ⌜ stateOf r ≡ pesNext (threadsOf (now (threads .entry))) (stateOf s) new (opOf kind) (record { x = x; y = y; kind = kind }) ⌝ }
-{
-    match op_of(kind) {
-        Op::Stitch => State {
-            before: kind,
-            code: s.code,
-            thread: s.thread,
-            x,
-            y,
-            sections: s.sections + one_if(new),
-        },
-        Op::Jump => State {
-            before: kind,
-            code: s.code,
-            thread: s.thread,
-            x: s.x,
-            y: s.y,
-            sections: s.sections + one_if(new),
-        },
-        Op::ColorChange => changed(codes, threads, s, new, kind, x, y),
-        Op::Trim | Op::End => State {
-            before: kind,
-            code: s.code,
-            thread: s.thread,
-            x: s.x,
-            y: s.y,
-            sections: s.sections,
-        },
-    }
+    k
 }
 
 // Where the run of one kind that begins at `from` ends.
@@ -165,7 +66,7 @@ fn run_end(xs: &[i32], ys: &[i32], kinds: &[u8], from: usize) -> usize
 {
     let n = list_len(xs, ys, kinds);
     let kind = kinds[from];
-    let mut i = from;
+    let mut i = alike_till(kinds, kind, from, n);
     while i < n {
         if kinds[i] != kind {
             return i;
@@ -175,44 +76,29 @@ fn run_end(xs: &[i32], ys: &[i32], kinds: &[u8], from: usize) -> usize
     i
 }
 
-// A number of 16 bits in two's complement.
-fn low16(z: i32) -> usize
-    requires { ⌜ natAbs z ≤ 32767 ⌝ }
-    ensures { λ r. ⌜ r ≡ bitsOf 15 z ⌝ }
+// The places from i to before j.
+fn put_points(
+    left: i32,
+    bottom: i32,
+    xs: &[i32],
+    ys: &[i32],
+    kinds: &[u8],
+    i: usize,
+    j: usize,
+    out: &mut [u8],
+    at: usize,
+) -> usize
+    requires { ⌜ (i ≤ j) × ((j ≤ length (commands (now xs) (now ys) (now kinds))) × (placed left bottom (commands (now xs) (now ys) (now kinds)))) ⌝ }
+    requires { ⌜ at + 4 * (j - i) ≤ length (now out) ⌝ }
+    ensures { λ r. ⌜ Put (now (out .entry)) (now (out .exit)) at r (points left bottom (now (xs .entry)) (now (ys .entry)) i (j - i)) ⌝ }
 {
-    ((z + 65536) % 65536) as usize
-}
-
-// A place from the left and the bottom edge.
-fn put_point(left: i32, bottom: i32, x: i32, y: i32, out: &mut [u8], at: usize) -> usize
-    requires { ⌜ Near left bottom x y ⌝ }
-    requires { ⌜ at + 4 ≤ length (now out) ⌝ }
-    ensures { λ r. ⌜ Put (now (out .entry)) (now (out .exit)) at r (pesPoint left bottom x y) ⌝ }
-{
-    let up = put_short(out, at, low16(x - left));
-    put_short(out, up, low16(y - bottom))
-}
-
-// Behind a section before: 0x8003.
-fn put_between(sections: usize, out: &mut [u8], at: usize) -> usize
-    requires { ⌜ at + length (pick (eqb sections 0) [] (little 2 0x8003)) ≤ length (now out) ⌝ }
-    ensures { λ r. ⌜ Put (now (out .entry)) (now (out .exit)) at r (pick (eqb sections 0) [] (little 2 0x8003)) ⌝ }
-{
-    if sections == 0 {
-        return at;
+    let mut k = i;
+    let mut to = at;
+    while k < j {
+        to = put_point(left, bottom, xs[k], ys[k], out, to);
+        k += 1;
     }
-    put_short(out, at, 0x8003)
-}
-
-// A section's beginning: whether it is a jump, the entry, the points.
-fn put_open(s: State, flag: usize, points: usize, out: &mut [u8], at: usize) -> usize
-    requires { ⌜ at + length (pesOpen (stateOf s) flag points) ≤ length (now out) ⌝ }
-    ensures { λ r. ⌜ Put (now (out .entry)) (now (out .exit)) at r (pesOpen (stateOf s) flag points) ⌝ }
-{
-    let first = put_between(s.sections, out, at);
-    let second = put_short(out, first, flag);
-    let third = put_short(out, second, s.code);
-    put_short(out, third, points)
+    to
 }
 
 // What a stitch at i writes.
@@ -299,6 +185,7 @@ fn put_cmd(
 pub fn put_sections(
     left: i32,
     bottom: i32,
+    codes: &[u8; 256],
     threads: &[u8],
     xs: &[i32],
     ys: &[i32],
@@ -306,81 +193,30 @@ pub fn put_sections(
     out: &mut [u8],
     at: usize,
 ) -> usize
+    requires { ⌜ Coded (threadsOf (now threads)) (now codes) ⌝ }
     requires { ⌜ (length (now kinds) ≤ 65535) × ((Near left bottom (pos 0) (pos 0)) × (placed left bottom (commands (now xs) (now ys) (now kinds)))) ⌝ }
     requires { ⌜ at + length (pesSections left bottom (threadsOf (now threads)) (pesStart (threadsOf (now threads))) (commands (now xs) (now ys) (now kinds))) ≤ length (now out) ⌝ }
     ensures { λ r. ⌜ Put (now (out .entry)) (now (out .exit)) at r (pesSections left bottom (threadsOf (now (threads .entry))) (pesStart (threadsOf (now (threads .entry)))) (commands (now (xs .entry)) (now (ys .entry)) (now (kinds .entry)))) ⌝ }
 {
     let n = list_len(xs, ys, kinds);
-    let codes = thread_codes(threads);
-    let mut s = start(&codes, threads);
+    let mut s = start(codes, threads);
     let mut to = at;
     let mut i = 0;
     while i < n {
         let kind = kinds[i];
         let new = is_new(s, kind);
         if goes_on(new, kind) {
-            let x = xs[i];
-            let y = ys[i];
-            to = put_point(left, bottom, x, y, out, to);
-            s = moved(s, x, y);
-            i += 1;
+            let end = run_end(xs, ys, kinds, i);
+            to = put_points(left, bottom, xs, ys, kinds, i, end, out, to);
+            s = moved(s, xs[end - 1], ys[end - 1]);
+            i = end;
             continue;
         }
         to = put_cmd(left, bottom, s, new, xs, ys, kinds, i, out, to);
-        s = next(&codes, threads, s, new, kind, xs[i], ys[i]);
+        s = next(codes, threads, s, new, kind, xs[i], ys[i]);
         i += 1;
     }
     to
-}
-
-fn open_len(sections: usize) -> usize
-    ensures { λ r. ⌜ (r ≡ openLen sections) × (r ≤ 8) ⌝ }
-{
-    if sections == 0 {
-        return 6;
-    }
-    8
-}
-
-// The bytes that a command takes.
-fn cmd_len(sections: usize, new: bool, kind: u8) -> usize
-    ensures { λ r. ⌜ (r ≡ cmdLen sections new (opOf kind)) × (r ≤ 16) ⌝ }
-{
-    match op_of(kind) {
-        Op::Stitch => { if new { open_len(sections) + 4 } else { 4 } }
-        Op::Jump => { if new { open_len(sections) + 8 } else { 0 } }
-        Op::Trim | Op::ColorChange | Op::End => 0,
-    }
-}
-
-// Whether a command opens a section.
-fn opens_section(new: bool, kind: u8) -> bool
-    ensures { λ r. ⌜ r ≡ opensSection new (opOf kind) ⌝ }
-{
-    match op_of(kind) {
-        Op::Stitch | Op::Jump => new,
-        Op::Trim | Op::ColorChange | Op::End => false,
-    }
-}
-
-// Whether it is logged: the section's entry is not the one logged last.
-fn is_logged(last: usize, code: usize, new: bool, kind: u8) -> bool
-    ensures { λ r. ⌜ r ≡ logs last code new (opOf kind) ⌝ }
-{
-    if opens_section(new, kind) {
-        return last != code;
-    }
-    false
-}
-
-// The entry logged last.
-fn last_code(logged: bool, code: usize, last: usize) -> usize
-    ensures { λ r. ⌜ r ≡ pick logged code last ⌝ }
-{
-    if logged {
-        return code;
-    }
-    last
 }
 
 // How many bytes the sections take, how many sections there are, and how many are logged.
@@ -390,13 +226,13 @@ pub struct Sizes {
     pub logged: usize,
 }
 
-pub fn measured(threads: &[u8], xs: &[i32], ys: &[i32], kinds: &[u8]) -> Sizes
+pub fn measured(codes: &[u8; 256], threads: &[u8], xs: &[i32], ys: &[i32], kinds: &[u8]) -> Sizes
+    requires { ⌜ Coded (threadsOf (now threads)) (now codes) ⌝ }
     requires { ⌜ length (now kinds) ≤ 65535 ⌝ }
     ensures { λ r. ⌜ measures (threadsOf (now (threads .entry))) (commands (now (xs .entry)) (now (ys .entry)) (now (kinds .entry))) r ⌝ }
 {
     let n = list_len(xs, ys, kinds);
-    let codes = thread_codes(threads);
-    let mut s = start(&codes, threads);
+    let mut s = start(codes, threads);
     let mut bytes = 0;
     let mut logged = 0;
     let mut last = 65;
@@ -405,15 +241,16 @@ pub fn measured(threads: &[u8], xs: &[i32], ys: &[i32], kinds: &[u8]) -> Sizes
         let kind = kinds[i];
         let new = is_new(s, kind);
         if goes_on(new, kind) {
-            bytes += 4;
-            i += 1;
+            let end = run_end(xs, ys, kinds, i);
+            bytes += 4 * (end - i);
+            i = end;
             continue;
         }
         let log = is_logged(last, s.code, new, kind);
         bytes += cmd_len(s.sections, new, kind);
         logged += one_if(log);
         last = last_code(log, s.code, last);
-        s = next(&codes, threads, s, new, kind, xs[i], ys[i]);
+        s = next(codes, threads, s, new, kind, xs[i], ys[i]);
         i += 1;
     }
     Sizes {
@@ -423,20 +260,9 @@ pub fn measured(threads: &[u8], xs: &[i32], ys: &[i32], kinds: &[u8]) -> Sizes
     }
 }
 
-// A section and its entry, if it is logged.
-fn put_entry(logged: bool, section: usize, code: usize, out: &mut [u8], at: usize) -> usize
-    requires { ⌜ at + length (pick logged (shorts (section ∷ code ∷ [])) []) ≤ length (now out) ⌝ }
-    ensures { λ r. ⌜ Put (now (out .entry)) (now (out .exit)) at r (pick logged (shorts (section ∷ code ∷ [])) []) ⌝ }
-{
-    if logged {
-        let second = put_short(out, at, section);
-        return put_short(out, second, code);
-    }
-    at
-}
-
 // The colour log.
 pub fn put_log(
+    codes: &[u8; 256],
     threads: &[u8],
     xs: &[i32],
     ys: &[i32],
@@ -444,13 +270,13 @@ pub fn put_log(
     out: &mut [u8],
     at: usize,
 ) -> usize
+    requires { ⌜ Coded (threadsOf (now threads)) (now codes) ⌝ }
     requires { ⌜ length (now kinds) ≤ 65535 ⌝ }
     requires { ⌜ at + length (shorts (colorLog (threadsOf (now threads)) 65 (pesStart (threadsOf (now threads))) (commands (now xs) (now ys) (now kinds)))) ≤ length (now out) ⌝ }
     ensures { λ r. ⌜ Put (now (out .entry)) (now (out .exit)) at r (shorts (colorLog (threadsOf (now (threads .entry))) 65 (pesStart (threadsOf (now (threads .entry)))) (commands (now (xs .entry)) (now (ys .entry)) (now (kinds .entry))))) ⌝ }
 {
     let n = list_len(xs, ys, kinds);
-    let codes = thread_codes(threads);
-    let mut s = start(&codes, threads);
+    let mut s = start(codes, threads);
     let mut last = 65;
     let mut to = at;
     let mut i = 0;
@@ -458,13 +284,13 @@ pub fn put_log(
         let kind = kinds[i];
         let new = is_new(s, kind);
         if goes_on(new, kind) {
-            i += 1;
+            i = run_end(xs, ys, kinds, i);
             continue;
         }
         let log = is_logged(last, s.code, new, kind);
         to = put_entry(log, s.sections, s.code, out, to);
         last = last_code(log, s.code, last);
-        s = next(&codes, threads, s, new, kind, xs[i], ys[i]);
+        s = next(codes, threads, s, new, kind, xs[i], ys[i]);
         i += 1;
     }
     to

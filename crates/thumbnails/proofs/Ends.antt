@@ -18,7 +18,8 @@ use Rattle.rules.specs.declared.Scale.{Scale}
 use Rattle.laws.specs.Tests.{by-test}
 use Rattle.laws.specs.Buffers.{Put, Writing, put-as, writing-room, writing-more}
 use Rattle.laws.specs.Listing.{list-end, commands-more}
-use Rattle.thumbnails.specs.Blocks.{changeFrom, blockIcons}
+use Rattle.tables.specs.Blocks.{blockIcons}
+use Rattle.thumbnails.specs.Blocks.{changeFrom}
 use Rattle.thumbnails.proofs.Sizes.{icon-long}
 
 -- ---- the commands before a colour change

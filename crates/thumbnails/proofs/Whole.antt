@@ -1,7 +1,7 @@
 -- The thumbnails of a list in a row: its scales from its bounds, the room for the blocks, and the parts joined.
 use Prim.Native.Nat.{ℕ, _+_, _≤_}
 use mathlib.Core.Path.{_≡_, ap, _∙_}
-use mathlib.Core.List.{List}
+use mathlib.Core.List.{List, _++_}
 use native.Mathlib.Omega.{arith}
 use lib.Ieee.{Float}
 use lib.ListN.{length}
@@ -17,8 +17,8 @@ use Rattle.rules.specs.declared.Scale.{Scale}
 use Rattle.laws.specs.Buffers.{Put, put-length, put-put, put-as}
 use Rattle.geom.specs.Frames.{boundsOf}
 use Rattle.geom.specs.declared.Bounds.{Bounds}
-use Rattle.thumbnails.specs.Blocks.{blockIcons}
-use Rattle.thumbnails.proofs.Joined.{scale-same}
+use Rattle.tables.specs.Blocks.{blockIcons}
+use Rattle.scales.proofs.Joined.{scale-same}
 use Rattle.laws.specs.Lengths.{length-icons}
 use Rattle.thumbnails.proofs.Sizes.{icon-long, blocks-long}
 
@@ -38,11 +38,18 @@ module _ (cs : List Cmd) where
       (toZ-ofZ g′ ∙ ap (λ (b : Bounds). b .max .y) e)
       buffer
 
+  -- the two parts are all of them
+  pub icons-are : {s t : Scale} → s ≡ scaled f4 → t ≡ scaled f5 → drawn s blankIcon cs ++ blockIcons t cs ≡ icons cs
+  unfolding icons blockIcons
+  icons-are e f = rw (e, f)
+
+  pub icons-room : (t : Scale) (at n : ℕ) → at + length (icons cs) ≤ n → at + (228 + length (blockIcons t cs)) ≤ n
+  icons-room t at n h = omega (arith, blocks-long t cs, length-icons cs)
+
   -- after the picture of the whole there is room for those of the blocks, and the two in a row are all
   module _ {d d′ icon : List ℕ} {at m : ℕ} (n : ℕ) (s t : Scale) (e : icon ≡ drawn s blankIcon (slice 0 n cs)) (p : Put d d′ at m icon) where
-    pub blocks-room : at + length (icons cs) ≤ length d → m + length (blockIcons t cs) ≤ length d′
-    blocks-room h = omega (arith, ap length e, icon-long s (slice 0 n cs), blocks-long t cs, length-icons cs, put-length p)
+    pub blocks-room : at + (228 + length (blockIcons t cs)) ≤ length d → m + length (blockIcons t cs) ≤ length d′
+    blocks-room h = omega (arith, ap length e, icon-long s (slice 0 n cs), put-length p)
 
-    pub icons-put : {d″ : List ℕ} {r : ℕ} → n ≡ length cs → s ≡ scaled f4 → t ≡ scaled f5 → Put d′ d″ m r (blockIcons t cs) → Put d d″ at r (icons cs)
-    unfolding icons blockIcons
-    icons-put k es et q = put-as (put-put p q) (rw (e, es, et, take-all n cs (omega arith)))
+    pub blocks-put : {d″ : List ℕ} {r : ℕ} → n ≡ length cs → Put d′ d″ m r (blockIcons t cs) → Put d d″ at r (drawn s blankIcon cs ++ blockIcons t cs)
+    blocks-put k q = put-as (put-put p q) (rw (e, take-all n cs (omega arith)))

@@ -3,15 +3,10 @@ use Prim.Native.Nat.{ℕ}
 use mathlib.Core.Path.{_≡_}
 use mathlib.Core.Bool.{Bool, true, false}
 use mathlib.Core.List.{List}
-use lib.IntN.{ℤ}
-use lib.Ieee.{Float, binary64, add, mul, lt, ofBits}
-use Rattle.rules.specs.Thumbnails.{real, f1, floorOf, within, pixel}
+use lib.Ieee.{Float, binary64, lt, ofBits}
+use Rattle.rules.specs.Thumbnails.{f1, floorOf, within, pixel}
 use Rattle.rules.specs.Vocabulary.{pick}
 use Rattle.thumbnails.specs.declared.Cell.{Cell}
-
--- a place on one axis, scaled: what `pixelAt` takes the floor of
-abbrev pub scaledAt : ℤ → Float → Float → Float
-scaledAt z scale t = add binary64 (mul binary64 (real z) scale) t
 
 -- from 1 to before 0: no place lies in it
 abbrev pub noCell : Cell

@@ -1,101 +1,31 @@
 // PEC's thumbnails: 38 rows of 6 bytes, the lowest bit leftmost.
 use emit::put_text;
+use emit::spread;
 use formats::list_len;
 use formats::op_of;
-use formats::stream_bounds;
+use geom::Bounds;
 use pec_data::pec_icon_blank;
 use rules::Op;
 use rules::Scale;
+use scales::floor;
+use scales::scale_of;
+use scales::scaled;
+use tables::put_by_tables;
 ghost use mathlib.Core.Path.{_≡_};
+ghost use mathlib.Core.Bool.{true};
+ghost use mathlib.Core.List.{_++_};
 ghost use Prim.Native.Nat.{_+_, _≤_};
+ghost use lib.IntN.{natAbs, _-ℤ_};
 ghost use lib.ListN.{length, drop};
 ghost use lib.Seq.{slice};
 ghost use Rattle.rules.specs.Charts.{blankIcon};
 ghost use Rattle.rules.specs.Lists.{isChange, commands};
-ghost use Rattle.rules.specs.Thumbnails.{atLeastOne, lesser, spanOf, middle, scaleBy, offset, scaleOf, floorOf, within, pixel, painted, marked, drawn, icons};
+ghost use Rattle.rules.specs.Thumbnails.{floorOf, within, pixel, painted, marked, drawn, icons};
 ghost use Rattle.laws.specs.Buffers.{Put};
-ghost use Rattle.thumbnails.specs.Blocks.{changeFrom, blockIcons};
-ghost use Rattle.thumbnails.specs.Cells.{scaledAt, noCell, isIn, Covers, Seen};
-
-// The larger of a number and 1.0.
-fn at_least_one(x: f64) -> f64
-    ensures { λ r. ⌜ r ≡ atLeastOne x ⌝ }
-{
-    if 1.0 < x {
-        return x;
-    }
-    1.0
-}
-
-fn lesser(x: f64, y: f64) -> f64
-    ensures { λ r. ⌜ r ≡ lesser x y ⌝ }
-{
-    if x < y {
-        return x;
-    }
-    y
-}
-
-// A width or a height.
-fn span_of(a: i32, b: i32) -> f64
-    ensures { λ r. ⌜ r ≡ spanOf a b ⌝ }
-{
-    (b as f64) - (a as f64)
-}
-
-fn middle(a: i32, b: i32) -> f64
-    ensures { λ r. ⌜ r ≡ middle a b ⌝ }
-{
-    (a as f64) + ((b as f64) - (a as f64)) * 0.5
-}
-
-// How far the middle, scaled, is from half the picture.
-fn offset(c: f64, scale: f64, half: f64) -> f64
-    ensures { λ r. ⌜ r ≡ offset c scale half ⌝ }
-{
-    -c * scale + half
-}
-
-// The scale that fits the bounds into the picture less the buffer.
-fn scale_by(x0: i32, y0: i32, x1: i32, y1: i32, buffer: f64) -> f64
-    ensures { λ r. ⌜ r ≡ scaleBy x0 y0 x1 y1 buffer ⌝ }
-{
-    let w = at_least_one(span_of(x0, x1));
-    let h = at_least_one(span_of(y0, y1));
-    lesser((48.0 - buffer) / w, (38.0 - buffer) / h)
-}
-
-// The scale and the two offsets, worked out once for a thumbnail.
-fn scale_of(x0: i32, y0: i32, x1: i32, y1: i32, buffer: f64) -> Scale
-    ensures { λ r. ⌜ r ≡ scaleOf x0 y0 x1 y1 buffer ⌝ }
-{
-    let scale = scale_by(x0, y0, x1, y1, buffer);
-    Scale {
-        scale,
-        tx: offset(middle(x0, x1), scale, 24.0),
-        ty: offset(middle(y0, y1), scale, 19.0),
-    }
-}
-
-// The floor of a number where it is a column or could be a row, and 48 elsewhere.
-fn floor(x: f64) -> usize
-    ensures { λ r. ⌜ r ≡ within (floorOf x) ⌝ }
-{
-    if x < 0.0 {
-        return 48;
-    }
-    if x < 48.0 {
-        return std::num::truncating_f64_to_u64(x) as usize;
-    }
-    48
-}
-
-// From a place on one axis to a place in the picture.
-fn scaled(z: i32, scale: f64, t: f64) -> f64
-    ensures { λ r. ⌜ r ≡ scaledAt z scale t ⌝ }
-{
-    (z as f64) * scale + t
-}
+ghost use Rattle.geom.specs.Frames.{boundsOf};
+ghost use Rattle.tables.specs.Blocks.{blockIcons};
+ghost use Rattle.thumbnails.specs.Blocks.{changeFrom};
+ghost use Rattle.thumbnails.specs.Cells.{noCell, isIn, Covers, Seen};
 
 // Sets a pixel; none outside the thumbnail, and none in row 0.
 fn set_pixel(icon: &mut [u8], x: usize, y: usize)
@@ -262,15 +192,80 @@ fn put_blocks(s: Scale, xs: &[i32], ys: &[i32], kinds: &[u8], out: &mut [u8], at
     to
 }
 
+// How many places there are from one to another.
+fn places(a: i32, b: i32) -> usize
+    ensures { λ r. ⌜ r ≡ natAbs (b -ℤ a) + 1 ⌝ }
+{
+    spread(a, b) as usize + 1
+}
+
+// Whether a number is near enough to 0 for tables.
+fn is_near(z: i32) -> bool
+    ensures { λ r. ⌜ (r ≡ true → natAbs z ≤ 65536) ⌝ }
+{
+    if z < -65536 {
+        return false;
+    }
+    z <= 65536
+}
+
+// Whether tables of w columns from left and h rows from top are worth their time, and can be had.
+fn has_tables(left: i32, w: usize, top: i32, h: usize, n: usize) -> bool
+    ensures { λ r. ⌜ (r ≡ true → ((natAbs left ≤ 65536) × (w ≤ 32768)) × ((natAbs top ≤ 65536) × (h ≤ 32768))) ⌝ }
+{
+    if n < 2048 {
+        return false;
+    }
+    if 32768 < w {
+        return false;
+    }
+    if 32768 < h {
+        return false;
+    }
+    if n < w + h {
+        return false;
+    }
+    is_near(left) & is_near(top)
+}
+
+// The thumbnail of the whole, then one for each colour block, stitch by stitch.
+fn put_plainly(
+    whole: Scale,
+    part: Scale,
+    xs: &[i32],
+    ys: &[i32],
+    kinds: &[u8],
+    out: &mut [u8],
+    at: usize,
+) -> usize
+    requires { ⌜ at + (228 + length (blockIcons part (commands (now xs) (now ys) (now kinds)))) ≤ length (now out) ⌝ }
+    ensures { λ r. ⌜ Put (now (out .entry)) (now (out .exit)) at r (drawn whole blankIcon (commands (now (xs .entry)) (now (ys .entry)) (now (kinds .entry))) ++ blockIcons part (commands (now (xs .entry)) (now (ys .entry)) (now (kinds .entry)))) ⌝ }
+{
+    let n = list_len(xs, ys, kinds);
+    let blocks = put_icon(draw_scaled(whole, xs, ys, kinds, 0, n), out, at);
+    put_blocks(part, xs, ys, kinds, out, blocks)
+}
+
 // The thumbnail of the whole, then one for each colour block, all by the bounds of the whole.
-pub fn put_icons(xs: &[i32], ys: &[i32], kinds: &[u8], out: &mut [u8], at: usize) -> usize
+pub fn put_icons(
+    b: Bounds,
+    xs: &[i32],
+    ys: &[i32],
+    kinds: &[u8],
+    out: &mut [u8],
+    at: usize,
+) -> usize
+    requires { ⌜ b ≡ boundsOf (commands (now xs) (now ys) (now kinds)) ⌝ }
     requires { ⌜ at + length (icons (commands (now xs) (now ys) (now kinds))) ≤ length (now out) ⌝ }
     ensures { λ r. ⌜ Put (now (out .entry)) (now (out .exit)) at r (icons (commands (now (xs .entry)) (now (ys .entry)) (now (kinds .entry)))) ⌝ }
 {
     let n = list_len(xs, ys, kinds);
-    let b = stream_bounds(xs, ys, kinds);
     let whole = scale_of(b.min.x, b.min.y, b.max.x, b.max.y, 4.0);
     let part = scale_of(b.min.x, b.min.y, b.max.x, b.max.y, 5.0);
-    let blocks = put_icon(draw_scaled(whole, xs, ys, kinds, 0, n), out, at);
-    put_blocks(part, xs, ys, kinds, out, blocks)
+    let w = places(b.min.x, b.max.x);
+    let h = places(b.min.y, b.max.y);
+    if has_tables(b.min.x, w, b.min.y, h, n) {
+        return put_by_tables(whole, part, b.min.x, w, b.min.y, h, xs, ys, kinds, out, at);
+    }
+    put_plainly(whole, part, xs, ys, kinds, out, at)
 }

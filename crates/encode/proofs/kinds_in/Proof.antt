@@ -8,7 +8,7 @@ use lib.Seq.{getD-take, length-take-le}
 use Rattle.rules.specs.Vocabulary.{count}
 use Rattle.laws.specs.Tests.{pick-both}
 use Rattle.laws.specs.Listing.{count-more, count-end}
-use Rattle.encode.specs.Cmds.{kindIn}
+use Rattle.encode_cmd.specs.Cmds.{kindIn}
 use Rattle.encode.proofs.kinds_in.Statement.{statement}
 use Rattle.encode.proofs.kinds_in.Tie as tie
 

@@ -7,7 +7,7 @@ use Rattle.rules.specs.Lists.{commands, written}
 use Rattle.rules.specs.declared.Format.the-variants.{Pes, Pec}
 use Rattle.laws.specs.Arms.{pes-pec}
 use Rattle.laws.specs.Buffers.{Put, put-nothing, put-as}
-use Rattle.encode.specs.Cmds.{cmdOf}
+use Rattle.encode_cmd.specs.Cmds.{cmdOf}
 use Rattle.encode.proofs.Lengths.{no-bytes}
 use Rattle.encode.proofs.put_stream.Statement.{statement}
 use Rattle.encode.proofs.put_stream.Tie as tie

@@ -12,7 +12,7 @@ use Rattle.rules.specs.declared.Format.{Format}
 use Rattle.rules.specs.declared.Format.the-variants.{Pes, Pec, Dst, Exp, Jef}
 use Rattle.laws.specs.Arms.{pes-pec}
 use Rattle.laws.specs.Listing.{length-commands}
-use Rattle.encode.specs.Cmds.{cmdOf, kindIn}
+use Rattle.encode_cmd.specs.Cmds.{cmdOf, kindIn}
 use Rattle.encode.proofs.Lengths.{Told, lengths}
 use Rattle.encode.proofs.stream_len.Statement.{statement}
 use Rattle.encode.proofs.stream_len.Tie as tie

@@ -39,12 +39,12 @@ takes-requires c κs = search needs
 returns-2 : tie.Need-returns-2
 returns-2 c =
     let a = c .before .before .before .before .before .before .args in
-    hit (a .later) (a .color) (a .best) (a .i) (c .before .before .before .before .s .given .1) (c .before .before .color-distance .ensures) (sym (c .before .takes .ensures) ∙ c .if1 .taken)
+    hit true (a .color) (a .best) (a .i) (c .before .before .before .before .s .given .1) (c .before .before .color-distance .ensures) (sym (c .before .takes .ensures) ∙ c .if1 .taken)
 
 returns-3 : tie.Need-returns-3
 returns-3 c =
     let a = c .before .before .before .before .before .before .args in
-    miss (a .later) (a .color) (a .best) (a .i) (c .before .before .before .before .s .given .1) (c .before .before .color-distance .ensures) (sym (c .before .takes .ensures) ∙ c .if1 .left)
+    miss true (a .color) (a .best) (a .i) (c .before .before .before .before .s .given .1) (c .before .before .color-distance .ensures) (sym (c .before .takes .ensures) ∙ c .if1 .left)
 
 pub closer-spec : {M : Type 1} → statement M
 closer-spec =

@@ -18,7 +18,7 @@ use Rattle.formats.proofs.stream_bounds.Statement.{statement}
 use Rattle.formats.proofs.stream_bounds.Tie as tie
 
 abbrev Inv-loop : tie.InvT-loop
-Inv-loop xs ys kinds n b₀ i₀ b i = (i ≤ n) × (Framing (commands xs ys kinds) b (drop i (commands xs ys kinds)) × (Read xs i × Read ys i))
+Inv-loop xs ys kinds n b₀ i₀ b i = (i ≤ n) × (Framing 2147483647 (commands xs ys kinds) b (drop i (commands xs ys kinds)) × (Read xs i × Read ys i))
 
 abbrev μ-loop : tie.MeasureT-loop
 μ-loop xs ys kinds n b₀ i₀ b i = n - i
@@ -49,7 +49,7 @@ empty-requires-2 c κs = search needs
 loop-holds : tie.Need-loop-holds Inv-loop μ-loop
 loop-holds c =
     let a = c .before .before .before .before .args in
-    (omega arith, (rw (c .empty2 .ensures) (framing-start (commands (now (a .xs)) (now (a .ys)) (now (a .kinds)))), (below-none _, below-none _)))
+    (omega arith, (rw (c .empty2 .ensures) (framing-start 2147483647 (commands (now (a .xs)) (now (a .ys)) (now (a .kinds)))), (below-none _, below-none _)))
 
 -- the turn's index is that of a command
 inside : (c : tie.In-loop Inv-loop μ-loop) → c .before .loop .i < length (commands (now ((c .before .before .before .before .before .before .args) .xs)) (now ((c .before .before .before .before .before .before .args) .ys)) (now ((c .before .before .before .before .before .before .args) .kinds)))
@@ -102,7 +102,7 @@ returns-2 c =
     let n : length cs ≡ l .i = omega (arith, c .before .before .before .before .list-len .ensures) in
     let some : 0 < l .i = omega (arith, c .before .before .before .if1 .left) in
     let h : 0 < length cs = omega arith in
-    framing-done (cmdAt (now (a .xs)) (now (a .ys)) (now (a .kinds)) 0) (commands-more (now (a .xs)) (now (a .ys)) (now (a .kinds)) 0 h) (l .inv .1 .1 .0 0 some) (l .inv .1 .1 .1 0 some) (rw (list-end cs (l .i) (omega arith)) at (l .inv .1 .0))
+    framing-done 2147483647 (cmdAt (now (a .xs)) (now (a .ys)) (now (a .kinds)) 0) (commands-more (now (a .xs)) (now (a .ys)) (now (a .kinds)) 0 h) (l .inv .1 .1 .0 0 some) (l .inv .1 .1 .1 0 some) (rw (list-end cs (l .i) (omega arith)) at (l .inv .1 .0))
 
 pub stream-bounds-spec : {M : Type 1} → statement M
 stream-bounds-spec =

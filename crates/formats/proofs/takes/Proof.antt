@@ -13,10 +13,7 @@ returns : tie.Need-returns
 returns c = search needs
 
 returns-2 : tie.Need-returns-2
-returns-2 c = rw (c .if1 .taken, c .before .enum-told .given .1)
-
-returns-3 : tie.Need-returns-3
-returns-3 c = rw (c .if1 .left, c .before .enum-told .given .1)
+returns-2 c = rw (c .enum-told .given .1)
 
 pub takes-spec : {M : Type 1} → statement M
-takes-spec = tie.close (tie.spec enum-told enum-told-2 returns returns-2 returns-3)
+takes-spec = tie.close (tie.spec enum-told enum-told-2 returns returns-2)

@@ -1,17 +1,14 @@
 -- `weighed` meets its contract: each product fits. Assumes nothing.
-use Prim.Native.Nat.{ℕ, _+_, _-_, _*_, _≤_}
+use Prim.Native.Nat.{_+_, _-_, _*_, _≤_}
 use mathlib.Core.Path.{refl}
 use native.Mathlib.Omega.{arith}
-use native.Mathlib.Nat.{mul-le-mul}
 use Rattle.rules.specs.Choices.{weighed}
 use borrow.Author.Needs.{needs}
+use Rattle.formats.proofs.Distances.{square, times}
 use Rattle.formats.proofs.weighed.Statement.{statement}
 use Rattle.formats.proofs.weighed.Tie as tie
 use Rattle.formats.proofs.weighed.Reads as reads
 use Rattle.formats.proofs.weighed.Lts as lts
-
-square : {n : ℕ} → n ≤ 255 → n * n ≤ 65025
-square h = mul-le-mul h h
 
 abbrev Start : Type 0
 Start = lts.Start reads.Pre reads.Post
@@ -26,10 +23,10 @@ blue : (c : Start) → c .args .b * c .args .b ≤ 65025
 blue c = square (c .pre .1 .1 .1)
 
 reds : (c : Start) → (512 + c .args .m) * (c .args .r * c .args .r) ≤ 49874175
-reds c = mul-le-mul {n₂ = 767} (omega (arith, c .pre .0)) (red c)
+reds c = times (omega (arith, c .pre .0)) (c .pre .1 .0)
 
 blues : (c : Start) → (767 - c .args .m) * (c .args .b * c .args .b) ≤ 49874175
-blues c = mul-le-mul {n₂ = 767} (omega arith) (blue c)
+blues c = times (omega arith) (c .pre .1 .1 .1)
 
 add-result : tie.Need-add-result
 add-result c = search needs

@@ -4,12 +4,12 @@ use mathlib.Core.Path.{_∙_}
 use native.Mathlib.Omega.{arith}
 use denote.Ref.{now}
 use lib.ListN.{length}
-use Rattle.passes.specs.Builders.{opening}
-use Rattle.passes.specs.Colour.{colourIn}
+use Rattle.builder.proofs.Parts.{may-open}
+use Rattle.builder.proofs.Places.{kept}
+use Rattle.builder.specs.Builders.{opening}
+use Rattle.builder.specs.Colour.{colourIn}
 use Rattle.passes.specs.Stretches.{Drawn}
 use Rattle.passes.proofs.Loops.{Filling, filling-start, small, stays, less, reach, holds, filling-again, stretch-room, start-room, short, stretch-on, fewer-blocks, room-run, room-block, all-places, all-runs, all-blocks, filling-done}
-use Rattle.passes.proofs.Parts.{may-open}
-use Rattle.passes.proofs.Places.{kept}
 use Rattle.passes.proofs.Stretches.{span, drawn-length}
 use Rattle.passes.proofs.fill.Statement.{statement}
 use Rattle.passes.proofs.fill.Tie as tie

@@ -14,22 +14,24 @@ use Rattle.rules.specs.Refusals.{stepsPast, stepTooLong}
 use Rattle.rules.specs.declared.Format.the-variants.{Pec}
 use Rattle.laws.specs.Listing.{length-commands}
 use Rattle.laws.specs.Ints.{ret}
-use Rattle.pec.specs.States.{stateOf, Step}
 use Rattle.laws.specs.Buffers.{Writing, writing-start, writing-room, writing-more, writing-done}
-use Rattle.pec.proofs.Stream.{readAt, Opened, opened-start, opened-next, going, bytesAt, bytesAfter, stepsAt, stillAfter, no-bytes, next-bytes, going-bytes, next-step, next-near}
+use Rattle.pec_cmd.specs.States.{stateOf, Step}
+use Rattle.pec.specs.Shorts.{pairs}
+use Rattle.pec.proofs.Stream.{readAt, going, bytesAt, bytesAfter, stepsAt, stillAfter, no-bytes, next-bytes, going-bytes, next-step, next-near}
+use Rattle.pec.proofs.Runs.{length-pairs, Behind, Opened, opened-start, opened-still, opened-next, runLeaves, run-leaves, run-reads, run-near, run-behind, looking, turns, turns-run, turns-next}
 use Rattle.pec.proofs.pec_encode.Statement.{statement}
 use Rattle.pec.proofs.pec_encode.Tie as tie
 
 abbrev Inv-loop : tie.InvT-loop
-Inv-loop xs ys kinds out₀ at n s₀ x₀ y₀ to₀ i₀ out s x y to i =
+Inv-loop xs ys kinds out₀ at n s₀ x₀ y₀ to₀ i₀ wait₀ out s x y to i wait =
     let cs = commands xs ys kinds in
     (n ≡ length cs)
     × (Writing out₀ at (pecStitches pecStart (pos 0) (pos 0) cs) out to (pecStitches (stateOf s) (toZ w32 x) (toZ w32 y) (drop i cs))
     × ((anyFrom (stepsPast Pec) (toZ w32 x) (toZ w32 y) (drop i cs) ≡ false)
-    × Opened s))
+    × Opened xs ys i s (toZ w32 x) (toZ w32 y)))
 
 abbrev μ-loop : tie.MeasureT-loop
-μ-loop xs ys kinds out₀ at n s₀ x₀ y₀ to₀ i₀ out s x y to i = n - i
+μ-loop xs ys kinds out₀ at n s₀ x₀ y₀ to₀ i₀ wait₀ out s x y to i wait = turns n i wait
 
 list-len-requires : tie.Need-list-len-requires Inv-loop μ-loop
 list-len-requires c κs = tt
@@ -40,45 +42,139 @@ start-requires c κs = tt
 loop-holds : tie.Need-loop-holds Inv-loop μ-loop
 unfolding stepTooLong
 loop-holds c =
-    let s = c .before .before .before .before in
-    let a = s .args in
+    let start = c .before .before .before .before in
+    let a = start .args in
     let whole = pecStitches pecStart (pos 0) (pos 0) (commands (now (a .xs)) (now (a .ys)) (now (a .kinds))) in
-    let opened = opened-start (c .start .result) (c .start .ensures) in
-    (c .before .list-len .ensures, (rw (c .start .ensures) (writing-start (now (a .out)) (a .at) whole (s .pre .1)), (s .pre .0, opened)))
+    let opened = opened-start (now (a .xs)) (now (a .ys)) (c .start .result) (pos 0) (pos 0) (c .start .ensures) in
+    (c .before .list-len .ensures, (rw (c .start .ensures) (writing-start (now (a .out)) (a .at) whole (start .pre .1)), (start .pre .0, opened)))
+
+looks-requires : tie.Need-looks-requires Inv-loop μ-loop
+looks-requires c κs = tt
+
+-- where the writer looks for a run, it stands behind the command before i
+behind : (c : tie.Then1 Inv-loop μ-loop)
+    → (let head = c .before .before .before in
+    let a = head .before .before .before .before .before .args in
+    let loop = head .loop in
+    Behind (now (a .xs)) (now (a .ys)) (loop .i) (loop .s) (toZ w32 (loop .x)) (toZ w32 (loop .y)))
+behind c =
+    let loop = c .before .before .before .loop in
+    loop .inv .1 .1 .1 (looking (loop .s) (loop .wait) (sym (c .before .looks .ensures) ∙ c .if1 .taken) .0)
+
+short-till-requires : tie.Need-short-till-requires Inv-loop μ-loop
+short-till-requires c κs = ((behind c .some, omega arith), c .before .before .before .before .before .before .before .before .pre .0)
+
+put-shorts-requires : tie.Need-put-shorts-requires Inv-loop μ-loop
+put-shorts-requires c κs =
+    let a = c .before .before .before .before .before .before .before .before .before .before .args in
+    let loop = c .before .before .before .before .before .loop in
+    let till = c .before .short-till .ensures in
+    let end = c .before .short-till .result in
+    let b = behind (c .before .before) in
+    let e = run-leaves (now (a .xs)) (now (a .ys)) (now (a .kinds)) (loop .s) b end (till .0) (till .1 .0) (till .1 .1) in
+    let vs = pairs (now (a .xs)) (now (a .ys)) (loop .i) (end - loop .i) in
+    let room = writing-room vs (runLeaves (now (a .xs)) (now (a .ys)) (now (a .kinds)) (loop .s) b end) (loop .inv .1 .0) e in
+    ((b .some, (till .0, till .1 .0)), (till .1 .1, omega (arith, room, length-pairs (now (a .xs)) (now (a .ys)) (loop .i) (end - loop .i))))
+
+sub-x : tie.Need-sub-x Inv-loop μ-loop
+sub-x c = omega (arith, behind (c .before .before .before .before .before) .some, c .before .before .before .before .short-till .ensures .0)
+
+mul-x : tie.Need-mul-x Inv-loop μ-loop
+mul-x c =
+    let found = c .before .before .before .before in
+    let start = found .before .before .before .before .before .before .before .before .before in
+    let a = start .args in
+    omega (arith, length-commands (now (a .xs)) (now (a .ys)) (now (a .kinds)), start .good, behind (found .before) .some, found .short-till .ensures)
+
+shared-slice-copy-out-x : tie.Need-shared-slice-copy-out-x Inv-loop μ-loop
+shared-slice-copy-out-x c =
+    let found = c .before .before .before .before in
+    let start = found .before .before .before .before .before .before .before .before .before in
+    let a = start .args in
+    omega (arith, length-commands (now (a .xs)) (now (a .ys)) (now (a .kinds)), start .good, behind (found .before) .some, found .short-till .ensures)
+
+sub-y : tie.Need-sub-y Inv-loop μ-loop
+sub-y c =
+    let found = c .before .before .before .before .before in
+    omega (arith, behind (found .before) .some, found .short-till .ensures .0)
+
+mul-y : tie.Need-mul-y Inv-loop μ-loop
+mul-y c =
+    let found = c .before .before .before .before .before in
+    let start = found .before .before .before .before .before .before .before .before .before in
+    let a = start .args in
+    omega (arith, length-commands (now (a .xs)) (now (a .ys)) (now (a .kinds)), start .good, behind (found .before) .some, found .short-till .ensures)
+
+shared-slice-copy-out-y : tie.Need-shared-slice-copy-out-y Inv-loop μ-loop
+shared-slice-copy-out-y c =
+    let found = c .before .before .before .before .before in
+    let start = found .before .before .before .before .before .before .before .before .before in
+    let a = start .args in
+    omega (arith, length-commands (now (a .xs)) (now (a .ys)) (now (a .kinds)), start .good, behind (found .before) .some, found .short-till .ensures)
+
+loop-less : tie.Need-loop-less Inv-loop μ-loop
+loop-less c =
+    let found = c .before .before .before .before .before .before in
+    let arm = found .before in
+    let look = arm .before in
+    let head = look .before .before in
+    let len = head .before .before in
+    let loop = head .loop in
+    turns-run (len .list-len .result) (loop .i) (found .short-till .result) (loop .wait) (found .short-till .ensures .0) (looking (loop .s) (loop .wait) (sym (look .looks .ensures) ∙ arm .if1 .taken) .1)
+
+loop-again : tie.Need-loop-again Inv-loop μ-loop
+loop-again c =
+    let done = c .before .before .before .before in
+    let found = done .before .before in
+    let arm = found .before in
+    let head = arm .before .before .before in
+    let start = head .before .before .before .before .before in
+    let a = start .args in
+    let loop = head .loop in
+    let till = found .short-till .ensures in
+    let end = found .short-till .result in
+    let b = behind arm in
+    let e = run-reads (now (a .xs)) (now (a .ys)) (now (a .kinds)) (loop .s) b end (till .0) (till .1 .0) (c .before .x .given) (c .y .given) (till .1 .1) in
+    let later = run-near (now (a .xs)) (now (a .ys)) (now (a .kinds)) (loop .s) b end (till .0) (till .1 .0) (c .before .x .given) (c .y .given) (start .pre .0) in
+    let opened = run-behind (now (a .xs)) (now (a .ys)) (now (a .kinds)) (loop .s) b end (till .0) (till .1 .0) (c .before .x .given) (c .y .given) in
+    (loop .inv .0, (writing-more (loop .inv .1 .0) e (done .put-shorts .ensures), (later, opened)))
+
+one-less-requires : tie.Need-one-less-requires Inv-loop μ-loop
+one-less-requires c κs = tt
 
 shared-slice-read-kind : tie.Need-shared-slice-read-kind Inv-loop μ-loop
 shared-slice-read-kind c =
-    let a = c .before .before .before .before .before .before .before .args in
+    let a = c .before .before .before .before .before .before .before .before .before .before .args in
     omega (arith, length-commands (now (a .xs)) (now (a .ys)) (now (a .kinds)))
 
 mul-nx : tie.Need-mul-nx Inv-loop μ-loop
 mul-nx c =
-    let a = c .before .before .before .before .before .before .before .args in
+    let a = c .before .before .before .before .before .before .before .before .before .before .args in
     omega (arith, length-commands (now (a .xs)) (now (a .ys)) (now (a .kinds)))
 
 shared-slice-copy-out-nx : tie.Need-shared-slice-copy-out-nx Inv-loop μ-loop
 shared-slice-copy-out-nx c =
-    let a = c .before .before .before .before .before .before .before .args in
+    let a = c .before .before .before .before .before .before .before .before .before .before .args in
     omega (arith, length-commands (now (a .xs)) (now (a .ys)) (now (a .kinds)))
 
 mul-ny : tie.Need-mul-ny Inv-loop μ-loop
 mul-ny c =
-    let a = c .before .before .before .before .before .before .before .before .args in
+    let a = c .before .before .before .before .before .before .before .before .before .before .before .args in
     omega (arith, length-commands (now (a .xs)) (now (a .ys)) (now (a .kinds)))
 
 shared-slice-copy-out-ny : tie.Need-shared-slice-copy-out-ny Inv-loop μ-loop
 shared-slice-copy-out-ny c =
-    let a = c .before .before .before .before .before .before .before .before .args in
+    let a = c .before .before .before .before .before .before .before .before .before .before .before .args in
     omega (arith, length-commands (now (a .xs)) (now (a .ys)) (now (a .kinds)))
 
 -- the step of a turn is small
 near : (c : tie.After-ny Inv-loop μ-loop)
-    → (let head = c .before .before .before .before in
+    → (let head = c .before .before .before .before .before .before .before in
     let a = head .before .before .before .before .before .args in
     let loop = head .loop in
     Step (readAt (now (a .xs)) (loop .i) -ℤ toZ w32 (loop .x)) (readAt (now (a .ys)) (loop .i) -ℤ toZ w32 (loop .y)))
 near c =
-    let head = c .before .before .before .before in
+    let head = c .before .before .before .before .before .before .before in
     let a = head .before .before .before .before .before .args in
     let loop = head .loop in
     next-step (now (a .xs)) (now (a .ys)) (now (a .kinds)) (loop .i) (stateOf (loop .s)) (toZ w32 (loop .x)) (toZ w32 (loop .y))
@@ -98,11 +194,13 @@ is-going-requires c κs = tt
 
 put-steps-requires : tie.Need-put-steps-requires Inv-loop μ-loop
 put-steps-requires c κs =
-    let up = c .before .before .before in
+    let asked = c .before .before in
+    let up = asked .before in
     let across = up .before in
     let ny = across .before in
     let nx = ny .before in
-    let head = nx .before .before .before in
+    let inside = nx .before .before .before .before .before in
+    let head = inside .before in
     let a = head .before .before .before .before .before .args in
     let loop = head .loop in
     let x = toZ w32 (loop .x) in
@@ -110,21 +208,31 @@ put-steps-requires c κs =
     let s = stateOf (loop .s) in
     let dx = ret w32 (across .step .result) (across .step .ok) ∙ across .step .ensures in
     let dy = ret w32 (up .step2 .result) (up .step2 .ok) ∙ up .step2 .ensures in
-    let l : loop .i < length (commands (now (a .xs)) (now (a .ys)) (now (a .kinds))) = omega (arith, loop .inv .0, nx .before .before .loop-test .taken) in
-    let g = going (loop .s) (getD (now (a .kinds)) (loop .i) 0) (loop .inv .1 .1 .1) (sym (c .before .before .is-going .ensures) ∙ c .before .if1 .taken) in
+    let l : loop .i < length (commands (now (a .xs)) (now (a .ys)) (now (a .kinds))) = omega (arith, loop .inv .0, inside .loop-test .taken) in
+    let o = loop .inv .1 .1 .1 in
+    let g = going (loop .s) (getD (now (a .kinds)) (loop .i) 0) (λ e. o e .opened) (sym (asked .is-going .ensures) ∙ c .before .if2 .taken) in
     let e = going-bytes (now (a .xs)) (now (a .ys)) (now (a .kinds)) (loop .i) s x y l (nx .nx .given) (ny .ny .given) g in
     rw (dx, dy) (near ny, writing-room (stepsAt (now (a .xs)) (now (a .ys)) (now (a .kinds)) (loop .i) s x y) (stillAfter (now (a .xs)) (now (a .ys)) (now (a .kinds)) (loop .i) s x y) (loop .inv .1 .0) e)
 
-loop-less : tie.Need-loop-less Inv-loop μ-loop
-loop-less c = omega arith
+loop-less-2 : tie.Need-loop-less-2 Inv-loop μ-loop
+loop-less-2 c =
+    let waited = c .before .before .before .before .before .before .before .before .before .before .before in
+    let inside = waited .before .before .before in
+    let head = inside .before in
+    let len = head .before .before in
+    turns-next (len .list-len .result) (head .loop .i) (head .loop .wait) (waited .one-less .result) (inside .loop-test .taken)
 
-loop-again : tie.Need-loop-again Inv-loop μ-loop
-loop-again c =
-    let up = c .before .before .before .before .before .before in
+loop-again-2 : tie.Need-loop-again-2 Inv-loop μ-loop
+loop-again-2 c =
+    let done = c .before .before in
+    let arm = done .before .before in
+    let asked = arm .before in
+    let up = asked .before in
     let across = up .before in
     let ny = across .before in
     let nx = ny .before in
-    let head = nx .before .before .before in
+    let inside = nx .before .before .before .before .before in
+    let head = inside .before in
     let a = head .before .before .before .before .before .args in
     let loop = head .loop in
     let x = toZ w32 (loop .x) in
@@ -132,12 +240,14 @@ loop-again c =
     let s = stateOf (loop .s) in
     let dx = ret w32 (across .step .result) (across .step .ok) ∙ across .step .ensures in
     let dy = ret w32 (up .step2 .result) (up .step2 .ok) ∙ up .step2 .ensures in
-    let l : loop .i < length (commands (now (a .xs)) (now (a .ys)) (now (a .kinds))) = omega (arith, loop .inv .0, nx .before .before .loop-test .taken) in
-    let g = going (loop .s) (getD (now (a .kinds)) (loop .i) 0) (loop .inv .1 .1 .1) (sym (c .before .before .before .before .before .is-going .ensures) ∙ c .before .before .before .before .if1 .taken) in
+    let l : loop .i < length (commands (now (a .xs)) (now (a .ys)) (now (a .kinds))) = omega (arith, loop .inv .0, inside .loop-test .taken) in
+    let o = loop .inv .1 .1 .1 in
+    let g = going (loop .s) (getD (now (a .kinds)) (loop .i) 0) (λ e. o e .opened) (sym (asked .is-going .ensures) ∙ arm .if2 .taken) in
     let e = going-bytes (now (a .xs)) (now (a .ys)) (now (a .kinds)) (loop .i) s x y l (nx .nx .given) (ny .ny .given) g in
     let later = next-near (now (a .xs)) (now (a .ys)) (now (a .kinds)) (loop .i) s x y l (nx .nx .given) (ny .ny .given) (loop .inv .1 .1 .0) in
-    let put = rw (dx, dy) at (c .before .before .put-steps .ensures) in
-    (loop .inv .0, (writing-more (loop .inv .1 .0) e put, (later, loop .inv .1 .1 .1)))
+    let opened = opened-still (now (a .xs)) (now (a .ys)) (loop .i) (loop .s) (nx .nx .given) (ny .ny .given) o in
+    let put = rw (dx, dy) at (done .put-steps .ensures) in
+    (loop .inv .0, (writing-more (loop .inv .1 .0) e put, (later, opened)))
 
 op-of-requires : tie.Need-op-of-requires Inv-loop μ-loop
 op-of-requires c κs = tt
@@ -148,7 +258,8 @@ put-cmd-requires c κs =
     let across = up .before in
     let ny = across .before in
     let nx = ny .before in
-    let head = nx .before .before .before in
+    let inside = nx .before .before .before .before .before in
+    let head = inside .before in
     let a = head .before .before .before .before .before .args in
     let loop = head .loop in
     let x = toZ w32 (loop .x) in
@@ -156,7 +267,7 @@ put-cmd-requires c κs =
     let s = stateOf (loop .s) in
     let dx = ret w32 (across .step .result) (across .step .ok) ∙ across .step .ensures in
     let dy = ret w32 (up .step2 .result) (up .step2 .ok) ∙ up .step2 .ensures in
-    let l : loop .i < length (commands (now (a .xs)) (now (a .ys)) (now (a .kinds))) = omega (arith, loop .inv .0, nx .before .before .loop-test .taken) in
+    let l : loop .i < length (commands (now (a .xs)) (now (a .ys)) (now (a .kinds))) = omega (arith, loop .inv .0, inside .loop-test .taken) in
     let op = c .before .op-of .ensures in
     let e = next-bytes (now (a .xs)) (now (a .ys)) (now (a .kinds)) (loop .i) s x y l (nx .nx .given) (ny .ny .given) in
     let vs = bytesAt (now (a .xs)) (now (a .ys)) (now (a .kinds)) (loop .i) s x y in
@@ -166,16 +277,24 @@ put-cmd-requires c κs =
 next-requires : tie.Need-next-requires Inv-loop μ-loop
 next-requires c κs = tt
 
-loop-less-2 : tie.Need-loop-less-2 Inv-loop μ-loop
-loop-less-2 c = omega arith
+loop-less-3 : tie.Need-loop-less-3 Inv-loop μ-loop
+loop-less-3 c =
+    let waited = c .before .before .before .before .before .before .before .before .before .before .before .before .before in
+    let inside = waited .before .before .before in
+    let head = inside .before in
+    let len = head .before .before in
+    turns-next (len .list-len .result) (head .loop .i) (head .loop .wait) (waited .one-less .result) (inside .loop-test .taken)
 
-loop-again-2 : tie.Need-loop-again-2 Inv-loop μ-loop
-loop-again-2 c =
-    let up = c .before .before .before .before .before .before .before .before in
+loop-again-3 : tie.Need-loop-again-3 Inv-loop μ-loop
+loop-again-3 c =
+    let done = c .before .before .before in
+    let named = done .before .before in
+    let up = named .before .before .before in
     let across = up .before in
     let ny = across .before in
     let nx = ny .before in
-    let head = nx .before .before .before in
+    let inside = nx .before .before .before .before .before in
+    let head = inside .before in
     let a = head .before .before .before .before .before .args in
     let loop = head .loop in
     let x = toZ w32 (loop .x) in
@@ -183,13 +302,13 @@ loop-again-2 c =
     let s = stateOf (loop .s) in
     let dx = ret w32 (across .step .result) (across .step .ok) ∙ across .step .ensures in
     let dy = ret w32 (up .step2 .result) (up .step2 .ok) ∙ up .step2 .ensures in
-    let l : loop .i < length (commands (now (a .xs)) (now (a .ys)) (now (a .kinds))) = omega (arith, loop .inv .0, nx .before .before .loop-test .taken) in
-    let op = c .before .before .before .before .before .op-of .ensures in
+    let l : loop .i < length (commands (now (a .xs)) (now (a .ys)) (now (a .kinds))) = omega (arith, loop .inv .0, inside .loop-test .taken) in
+    let op = named .op-of .ensures in
     let e = next-bytes (now (a .xs)) (now (a .ys)) (now (a .kinds)) (loop .i) s x y l (nx .nx .given) (ny .ny .given) in
     let later = next-near (now (a .xs)) (now (a .ys)) (now (a .kinds)) (loop .i) s x y l (nx .nx .given) (ny .ny .given) (loop .inv .1 .1 .0) in
-    let put = rw (dx, dy, op) at (c .before .before .before .put-cmd .ensures) in
+    let put = rw (dx, dy, op) at (done .put-cmd .ensures) in
     let after = c .next .ensures ∙ ap (pecNext s) op in
-    let opened = opened-next (c .next .result) s (opOf (getD (now (a .kinds)) (loop .i) 0)) after in
+    let opened = opened-next (now (a .xs)) (now (a .ys)) (loop .i) (c .next .result) (nx .nx .given) (ny .ny .given) s (opOf (getD (now (a .kinds)) (loop .i) 0)) after in
     (loop .inv .0, (rw after (writing-more (loop .inv .1 .0) e put), (later, opened)))
 
 same-length : tie.Need-same-length Inv-loop μ-loop
@@ -211,6 +330,18 @@ pec-encode-spec =
     list-len-requires
     start-requires
     loop-holds
+    looks-requires
+    short-till-requires
+    put-shorts-requires
+    sub-x
+    mul-x
+    shared-slice-copy-out-x
+    sub-y
+    mul-y
+    shared-slice-copy-out-y
+    loop-less
+    loop-again
+    one-less-requires
     shared-slice-read-kind
     mul-nx
     shared-slice-copy-out-nx
@@ -221,12 +352,12 @@ pec-encode-spec =
     add-i
     is-going-requires
     put-steps-requires
-    loop-less
-    loop-again
+    loop-less-2
+    loop-again-2
     op-of-requires
     put-cmd-requires
     next-requires
-    loop-less-2
-    loop-again-2
+    loop-less-3
+    loop-again-3
     same-length
     returns)

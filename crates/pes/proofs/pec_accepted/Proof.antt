@@ -29,25 +29,28 @@ returns c =
     let long : 8 + c .before .part-len .result ≡ length (pecFile (now (a .name)) cs ts) = omega (arith, c .before .part-len .ensures .long (now (a .name)), pec-length (now (a .name)) cs ts) in
     unwritten (omega (arith, long, c .if1 .taken))
 
+stream-bounds-requires : tie.Need-stream-bounds-requires
+stream-bounds-requires c κs = search needs
+
 put-pec-file-requires : tie.Need-put-pec-file-requires
 put-pec-file-requires c κs =
-    let a = c .before .before .before .before .before .before .before .before .args in
+    let a = c .before .before .before .before .before .before .before .before .before .args in
     let cs = commands (now (a .xs)) (now (a .ys)) (now (a .kinds)) in
     let ts = threadsOf (now (a .threads)) in
-    let long : 8 + c .before .before .part-len .result ≡ length (pecFile (now (a .name)) cs ts) = omega (arith, c .before .before .part-len .ensures .long (now (a .name)), pec-length (now (a .name)) cs ts) in
-    let p = c .before .before .before .before .before .before .before .before .pre in
-    (record { long = p .0; few = p .1 .0; steps = p .1 .1; bytes = c .before .before .before .pec-len .ensures }, omega (arith, long, c .before .if1 .left))
+    let long : 8 + c .before .before .before .part-len .result ≡ length (pecFile (now (a .name)) cs ts) = omega (arith, c .before .before .before .part-len .ensures .long (now (a .name)), pec-length (now (a .name)) cs ts) in
+    let p = c .before .before .before .before .before .before .before .before .before .pre in
+    (c .before .stream-bounds .ensures, (record { long = p .0; few = p .1 .0; steps = p .1 .1; bytes = c .before .before .before .before .pec-len .ensures }, omega (arith, long, c .before .before .if1 .left)))
 
 same-length : tie.Need-same-length
 same-length c = search needs
 
 returns-2 : tie.Need-returns-2
 returns-2 c =
-    let a = c .before .before .before .before .before .before .before .before .before .before .before .args in
+    let a = c .before .before .before .before .before .before .before .before .before .before .before .before .args in
     let cs = commands (now (a .xs)) (now (a .ys)) (now (a .kinds)) in
     let ts = threadsOf (now (a .threads)) in
-    let long : 8 + c .before .before .before .before .before .part-len .result ≡ length (pecFile (now (a .name)) cs ts) = omega (arith, c .before .before .before .before .before .part-len .ensures .long (now (a .name)), pec-length (now (a .name)) cs ts) in
-    written (omega (arith, long, c .before .before .before .before .if1 .left)) (c .before .before .put-pec-file .ensures)
+    let long : 8 + c .before .before .before .before .before .before .part-len .result ≡ length (pecFile (now (a .name)) cs ts) = omega (arith, c .before .before .before .before .before .before .part-len .ensures .long (now (a .name)), pec-length (now (a .name)) cs ts) in
+    written (omega (arith, long, c .before .before .before .before .before .if1 .left)) (c .before .before .put-pec-file .ensures)
 
 pub pec-accepted-spec : {M : Type 1} → statement M
 pec-accepted-spec =
@@ -57,6 +60,7 @@ pec-accepted-spec =
     part-len-requires
     add-long
     returns
+    stream-bounds-requires
     put-pec-file-requires
     same-length
     returns-2)

@@ -12,22 +12,25 @@ use borrow.Author.Needs.{needs}
 use Rattle.pes.proofs.pes_accepted.Statement.{statement}
 use Rattle.pes.proofs.pes_accepted.Tie as tie
 
+thread-codes-requires : tie.Need-thread-codes-requires
+thread-codes-requires c κs = search needs
+
 measured-requires : tie.Need-measured-requires
 measured-requires c κs = search needs
 
 pec-len-requires : tie.Need-pec-len-requires
 pec-len-requires c κs =
-    let a = c .before .before .before .before .before .args in
+    let a = c .before .before .before .before .before .before .before .args in
     let cs = commands (now (a .xs)) (now (a .ys)) (now (a .kinds)) in
     let ts = threadsOf (now (a .threads)) in
-    (c .before .before .before .before .before .pre .0 .0, sym (same-steps cs) ∙ c .before .before .before .before .before .pre .0 .1 .1)
+    (c .before .before .before .before .before .before .before .pre .0 .0, sym (same-steps cs) ∙ c .before .before .before .before .before .before .before .pre .0 .1 .1)
 
 blocks-len-requires : tie.Need-blocks-len-requires
 blocks-len-requires c κs =
-    let a = c .before .before .before .before .before .before .args in
+    let a = c .before .before .before .before .before .before .before .before .args in
     let cs = commands (now (a .xs)) (now (a .ys)) (now (a .kinds)) in
     let ts = threadsOf (now (a .threads)) in
-    (bytes-small (now (a .xs)) (now (a .ys)) (now (a .kinds)) ts (c .before .before .before .before .before .before .pre .0 .0) (c .before .measured .result) (c .before .measured .ensures), logged-small (now (a .xs)) (now (a .ys)) (now (a .kinds)) ts (c .before .before .before .before .before .before .pre .0 .0) (c .before .measured .result) (c .before .measured .ensures))
+    (bytes-small (now (a .xs)) (now (a .ys)) (now (a .kinds)) ts (c .before .before .before .before .before .before .before .before .pre .0 .0) (c .before .measured .result) (c .before .measured .ensures), logged-small (now (a .xs)) (now (a .ys)) (now (a .kinds)) ts (c .before .before .before .before .before .before .before .before .pre .0 .0) (c .before .measured .result) (c .before .measured .ensures))
 
 add-long : tie.Need-add-long
 add-long c = search needs
@@ -40,38 +43,43 @@ add-long-2 c = search needs
 
 returns : tie.Need-returns
 returns c =
-    let a = c .before .before .before .before .before .before .before .before .before .args in
+    let a = c .before .before .before .before .before .before .before .before .before .before .before .args in
     let cs = commands (now (a .xs)) (now (a .ys)) (now (a .kinds)) in
     let ts = threadsOf (now (a .threads)) in
     let long : 22 + c .before .before .blocks-len .result + c .before .part-len .result ≡ length (pesFile (now (a .name)) cs ts) = omega (arith, c .before .before .blocks-len .ensures .0, blocks-long cs ts (c .before .before .before .before .measured .result) (c .before .before .before .before .measured .ensures), c .before .part-len .ensures .long (now (a .name)), file-long (now (a .name)) cs ts) in
     unwritten (omega (arith, long, c .if1 .taken))
 
+stream-bounds-requires : tie.Need-stream-bounds-requires
+stream-bounds-requires c κs = search needs
+
 put-pes-file-requires : tie.Need-put-pes-file-requires
 put-pes-file-requires c κs =
-    let a = c .before .before .before .before .before .before .before .before .before .before .args in
+    let a = c .before .before .before .before .before .before .before .before .before .before .before .before .before .before .args in
     let cs = commands (now (a .xs)) (now (a .ys)) (now (a .kinds)) in
     let ts = threadsOf (now (a .threads)) in
-    let long : 22 + c .before .before .before .blocks-len .result + c .before .before .part-len .result ≡ length (pesFile (now (a .name)) cs ts) = omega (arith, c .before .before .before .blocks-len .ensures .0, blocks-long cs ts (c .before .before .before .before .before .measured .result) (c .before .before .before .before .before .measured .ensures), c .before .before .part-len .ensures .long (now (a .name)), file-long (now (a .name)) cs ts) in
-    let p = c .before .before .before .before .before .before .before .before .before .before .pre in (
-      record { long = p .0 .0; few = p .0 .1 .0; steps = sym (same-steps cs) ∙ p .0 .1 .1; bytes = c .before .before .before .before .pec-len .ensures },
-      ((p .1, (c .before .before .before .before .before .measured .ensures, (bytes-small (now (a .xs)) (now (a .ys)) (now (a .kinds)) ts (c .before .before .before .before .before .before .before .before .before .before .pre .0 .0) (c .before .before .before .before .before .measured .result) (c .before .before .before .before .before .measured .ensures), logged-small (now (a .xs)) (now (a .ys)) (now (a .kinds)) ts (c .before .before .before .before .before .before .before .before .before .before .pre .0 .0) (c .before .before .before .before .before .measured .result) (c .before .before .before .before .before .measured .ensures)))), omega (arith, long, c .before .if1 .left)),
-    )
+    let long : 22 + c .before .before .before .before .before .blocks-len .result + c .before .before .before .before .part-len .result ≡ length (pesFile (now (a .name)) cs ts) = omega (arith, c .before .before .before .before .before .blocks-len .ensures .0, blocks-long cs ts (c .before .before .before .before .before .before .before .measured .result) (c .before .before .before .before .before .before .before .measured .ensures), c .before .before .before .before .part-len .ensures .long (now (a .name)), file-long (now (a .name)) cs ts) in
+    let p = c .before .before .before .before .before .before .before .before .before .before .before .before .before .before .pre in
+    let m = c .before .before .before .before .before .before .before .measured in
+    let bytes = bytes-small (now (a .xs)) (now (a .ys)) (now (a .kinds)) ts (p .0 .0) (m .result) (m .ensures) in
+    let logged = logged-small (now (a .xs)) (now (a .ys)) (now (a .kinds)) ts (p .0 .0) (m .result) (m .ensures) in
+    (c .before .before .stream-bounds .ensures, (c .before .before .before .before .before .before .before .before .before .thread-codes .ensures, (record { long = p .0 .0; few = p .0 .1 .0; steps = sym (same-steps cs) ∙ p .0 .1 .1; bytes = c .before .before .before .before .before .before .pec-len .ensures }, ((p .1, (m .ensures, (bytes, logged))), omega (arith, long, c .before .before .before .if1 .left)))))
 
 same-length : tie.Need-same-length
 same-length c = search needs
 
 returns-2 : tie.Need-returns-2
 returns-2 c =
-    let a = c .before .before .before .before .before .before .before .before .before .before .before .before .before .args in
+    let a = c .before .before .before .before .before .before .before .before .before .before .before .before .before .before .before .before .before .args in
     let cs = commands (now (a .xs)) (now (a .ys)) (now (a .kinds)) in
     let ts = threadsOf (now (a .threads)) in
-    let long : 22 + c .before .before .before .before .before .before .blocks-len .result + c .before .before .before .before .before .part-len .result ≡ length (pesFile (now (a .name)) cs ts) = omega (arith, c .before .before .before .before .before .before .blocks-len .ensures .0, blocks-long cs ts (c .before .before .before .before .before .before .before .before .measured .result) (c .before .before .before .before .before .before .before .before .measured .ensures), c .before .before .before .before .before .part-len .ensures .long (now (a .name)), file-long (now (a .name)) cs ts) in
-    written (omega (arith, long, c .before .before .before .before .if1 .left)) (c .before .before .put-pes-file .ensures)
+    let long : 22 + c .before .before .before .before .before .before .before .before .blocks-len .result + c .before .before .before .before .before .before .before .part-len .result ≡ length (pesFile (now (a .name)) cs ts) = omega (arith, c .before .before .before .before .before .before .before .before .blocks-len .ensures .0, blocks-long cs ts (c .before .before .before .before .before .before .before .before .before .before .measured .result) (c .before .before .before .before .before .before .before .before .before .before .measured .ensures), c .before .before .before .before .before .before .before .part-len .ensures .long (now (a .name)), file-long (now (a .name)) cs ts) in
+    written (omega (arith, long, c .before .before .before .before .before .before .if1 .left)) (c .before .before .put-pes-file .ensures)
 
 pub pes-accepted-spec : {M : Type 1} → statement M
 pes-accepted-spec =
     tie.close
     (tie.spec
+    thread-codes-requires
     measured-requires
     pec-len-requires
     blocks-len-requires
@@ -79,6 +87,7 @@ pes-accepted-spec =
     part-len-requires
     add-long-2
     returns
+    stream-bounds-requires
     put-pes-file-requires
     same-length
     returns-2)

@@ -17,15 +17,15 @@ put-text-requires c κs =
     let a = c .before .before .before .before .before .before .args in
     let cs = commands (now (a .xs)) (now (a .ys)) (now (a .kinds)) in
     let ts = threadsOf (now (a .threads)) in
-    omega (arith, pec-length (now (a .name)) cs ts, c .before .before .before .before .before .before .pre .1)
+    omega (arith, pec-length (now (a .name)) cs ts, c .before .before .before .before .before .before .pre .1 .1)
 
 write-pec-requires : tie.Need-write-pec-requires
 write-pec-requires c κs =
     let a = c .before .before .before .before .before .before .before .before .before .before .args in
     let cs = commands (now (a .xs)) (now (a .ys)) (now (a .kinds)) in
     let ts = threadsOf (now (a .threads)) in
-    let g = c .before .before .before .before .before .before .before .before .before .before .pre .0 in
-    ((g .long, (g .few, g .steps)), (g .bytes, omega (arith, pec-length (now (a .name)) cs ts, put-length (c .before .before .before .put-text .ensures), c .before .before .before .before .before .before .before .before .before .before .pre .1)))
+    let g = c .before .before .before .before .before .before .before .before .before .before .pre .1 .0 in
+    (c .before .before .before .before .before .before .before .before .before .before .pre .0, ((g .long, (g .few, g .steps)), (g .bytes, omega (arith, pec-length (now (a .name)) cs ts, put-length (c .before .before .before .put-text .ensures), c .before .before .before .before .before .before .before .before .before .before .pre .1 .1))))
 
 same-length : tie.Need-same-length
 same-length c = search needs

@@ -23,24 +23,24 @@ put-start-requires c κs =
     let a = c .before .before .before .before .before .before .args in
     let cs = commands (now (a .xs)) (now (a .ys)) (now (a .kinds)) in
     let ts = threadsOf (now (a .threads)) in
-    room-start (now (a .name)) cs ts (now (a .out)) (c .before .before .before .before .before .before .pre .1 .1)
+    room-start (now (a .name)) cs ts (now (a .out)) (c .before .before .before .before .before .before .pre .1 .1 .1 .1)
 
 write-pes-blocks-requires : tie.Need-write-pes-blocks-requires
 write-pes-blocks-requires c κs =
     let a = c .before .before .before .before .before .before .before .before .before .before .args in
     let cs = commands (now (a .xs)) (now (a .ys)) (now (a .kinds)) in
     let ts = threadsOf (now (a .threads)) in
-    let p = c .before .before .before .before .before .before .before .before .before .before .pre in
-    ((p .0 .long, p .1 .0 .0), (p .1 .0 .1 .0, room-blocks (now (a .name)) cs ts (now (a .out)) (p .1 .1) _ (c .before .before .before .put-start .ensures)))
+    let p = c .before .before .before .before .before .before .before .before .before .before .pre .1 .1 in
+    (c .before .before .before .before .before .before .before .before .before .before .pre .0, (c .before .before .before .before .before .before .before .before .before .before .pre .1 .0, ((p .0 .long, p .1 .0 .0), (p .1 .0 .1 .0, room-blocks (now (a .name)) cs ts (now (a .out)) (p .1 .1) _ (c .before .before .before .put-start .ensures)))))
 
 write-pec-requires : tie.Need-write-pec-requires
 write-pec-requires c κs =
     let a = c .before .before .before .before .before .before .before .before .before .before .before .before .before .before .args in
     let cs = commands (now (a .xs)) (now (a .ys)) (now (a .kinds)) in
     let ts = threadsOf (now (a .threads)) in
-    let p = c .before .before .before .before .before .before .before .before .before .before .before .before .before .before .pre in
+    let p = c .before .before .before .before .before .before .before .before .before .before .before .before .before .before .pre .1 .1 in
     let g = p .0 in
-    ((g .long, (g .few, g .steps)), (g .bytes, room-part (now (a .name)) cs ts (now (a .out)) (p .1 .1) _ (c .before .before .before .before .before .before .before .put-start .ensures) (c .before .before .before .write-pes-blocks .ensures)))
+    (c .before .before .before .before .before .before .before .before .before .before .before .before .before .before .pre .0, ((g .long, (g .few, g .steps)), (g .bytes, room-part (now (a .name)) cs ts (now (a .out)) (p .1 .1) _ (c .before .before .before .before .before .before .before .put-start .ensures) (c .before .before .before .write-pes-blocks .ensures))))
 
 same-length : tie.Need-same-length
 same-length c = search needs
@@ -50,7 +50,7 @@ returns c =
     let a = c .before .before .before .before .before .before .before .before .before .before .before .before .before .before .before .before .before .args in
     let cs = commands (now (a .xs)) (now (a .ys)) (now (a .kinds)) in
     let ts = threadsOf (now (a .threads)) in
-    let p = c .before .before .before .before .before .before .before .before .before .before .before .before .before .before .before .before .before .pre in
+    let p = c .before .before .before .before .before .before .before .before .before .before .before .before .before .before .before .before .before .pre .1 .1 in
     let e = ap (λ (n : ℕ). 22 + n) (c .before .before .before .before .before .before .before .before .before .before .before .before .blocks-len .ensures .0) ∙ start-long cs ts (a .z) (p .1 .0 .1 .0) in
     put-as (put-put (c .before .before .before .before .before .before .before .before .before .before .put-start .ensures) (put-put (c .before .before .before .before .before .before .write-pes-blocks .ensures) (c .before .before .write-pec .ensures))) (file-as (now (a .name)) cs ts e)
 

@@ -14,21 +14,21 @@ put-short-requires c κs =
     let a = c .before .before .before .before .args in
     let cs = commands (now (a .xs)) (now (a .ys)) (now (a .kinds)) in
     let ts = threadsOf (now (a .threads)) in
-    room-count (a .n) ts cs (now (a .out)) (a .at) (c .before .before .before .before .pre .1)
+    room-count (a .n) ts cs (now (a .out)) (a .at) (c .before .before .before .before .pre .1 .1)
 
 put-log-requires : tie.Need-put-log-requires
 put-log-requires c κs =
     let a = c .before .before .before .before .before .before .before .before .args in
     let cs = commands (now (a .xs)) (now (a .ys)) (now (a .kinds)) in
     let ts = threadsOf (now (a .threads)) in
-    (c .before .before .before .before .before .before .before .before .pre .0, room-log (a .n) ts cs (now (a .out)) (a .at) (c .before .before .before .before .before .before .before .before .pre .1) (c .before .before .before .put-short .ensures))
+    (c .before .before .before .before .before .before .before .before .pre .0, (c .before .before .before .before .before .before .before .before .pre .1 .0, room-log (a .n) ts cs (now (a .out)) (a .at) (c .before .before .before .before .before .before .before .before .pre .1 .1) (c .before .before .before .put-short .ensures)))
 
 put-times-requires : tie.Need-put-times-requires
 put-times-requires c κs =
     let a = c .before .before .before .before .before .before .before .before .before .before .before .before .args in
     let cs = commands (now (a .xs)) (now (a .ys)) (now (a .kinds)) in
     let ts = threadsOf (now (a .threads)) in
-    room-zeros (a .n) ts cs (now (a .out)) (a .at) (c .before .before .before .before .before .before .before .before .before .before .before .before .pre .1) (c .before .before .before .before .before .before .before .put-short .ensures) (c .before .before .before .put-log .ensures)
+    room-zeros (a .n) ts cs (now (a .out)) (a .at) (c .before .before .before .before .before .before .before .before .before .before .before .before .pre .1 .1) (c .before .before .before .before .before .before .before .put-short .ensures) (c .before .before .before .put-log .ensures)
 
 same-length : tie.Need-same-length
 same-length c = search needs

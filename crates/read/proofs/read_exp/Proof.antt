@@ -1,8 +1,8 @@
 -- No colours are stored.
 use mathlib.Core.Path.{refl}
 use Rattle.rules.specs.Files.{colourOf, stored, stitchBytes}
-use Rattle.passes.specs.Colour.{colourIn}
 use Rattle.rules.specs.declared.Format.the-variants.{Exp}
+use Rattle.builder.specs.Colour.{colourIn}
 use Rattle.read.proofs.Colours.{answered-as}
 use borrow.Author.Needs.{needs}
 use Rattle.read.proofs.read_exp.Statement.{statement}

@@ -1,8 +1,8 @@
 -- By the counts, or by ample buffers.
 use mathlib.Core.Path.{sym, _∙_}
 use denote.Ref.{now}
+use Rattle.builder.specs.Colour.{colourIn}
 use Rattle.passes.proofs.Bounds.{ample-fits}
-use Rattle.passes.specs.Colour.{colourIn}
 use Rattle.read.proofs.Rooms.{fits-told, given-read, given-unread}
 use borrow.Author.Needs.{needs}
 use Rattle.read.proofs.read_records.Statement.{statement}

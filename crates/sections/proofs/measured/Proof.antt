@@ -10,13 +10,15 @@ use mir.Syntax.{w32}
 use Rattle.rules.specs.Lists.{commands, threadsOf}
 use Rattle.laws.specs.Ints.{ret}
 use Rattle.laws.specs.Listing.{length-commands}
-use Rattle.sections.specs.States.{stateOf, movedTo}
-use Rattle.sections.proofs.Steps.{Within, Sizing, newAt, within-start, within-more, within-on, sizing-start, sizing-more, sizing-on, sizing-done, elsewhere, after-moved}
+use Rattle.pes_cmd.specs.States.{stateOf, movedTo}
+use Rattle.sections.proofs.Runs.{run-span}
+use Rattle.sections.proofs.Stretch.{stretch-from, stretch-sizing}
+use Rattle.sections.proofs.Steps.{Within, Sizing, newAt, within-start, within-more, within-on, sizing-start, sizing-more, sizing-done, elsewhere, after-moved}
 use Rattle.sections.proofs.measured.Statement.{statement}
 use Rattle.sections.proofs.measured.Tie as tie
 
 abbrev Inv-loop : tie.InvT-loop
-Inv-loop threads xs ys kinds n codes s₀ bytes₀ logged₀ last₀ i₀ s bytes logged last i =
+Inv-loop codes threads xs ys kinds n s₀ bytes₀ logged₀ last₀ i₀ s bytes logged last i =
     let cs = commands xs ys kinds in
     (n ≡ length cs)
     × (Within i (stateOf s)
@@ -27,28 +29,25 @@ Inv-loop threads xs ys kinds n codes s₀ bytes₀ logged₀ last₀ i₀ s byte
     × (logged ≤ i))))))
 
 abbrev μ-loop : tie.MeasureT-loop
-μ-loop threads xs ys kinds n codes s₀ bytes₀ logged₀ last₀ i₀ s bytes logged last i = n - i
+μ-loop codes threads xs ys kinds n s₀ bytes₀ logged₀ last₀ i₀ s bytes logged last i = n - i
 
 list-len-requires : tie.Need-list-len-requires Inv-loop μ-loop
 list-len-requires c κs = tt
 
-thread-codes-requires : tie.Need-thread-codes-requires Inv-loop μ-loop
-thread-codes-requires c κs = tt
-
 start-requires : tie.Need-start-requires Inv-loop μ-loop
-start-requires c κs = c .before .thread-codes .ensures
+start-requires c κs = c .before .before .before .pre .0
 
 loop-holds : tie.Need-loop-holds Inv-loop μ-loop
 loop-holds c =
-    let a = c .before .before .before .before .before .before .args in
+    let a = c .before .before .before .before .args in
     let ts = threadsOf (now (a .threads)) in
     let cs = commands (now (a .xs)) (now (a .ys)) (now (a .kinds)) in
     let s = c .start .result in
-    (c .before .before .before .list-len .ensures, (rw (c .start .ensures) (within-start ts), (s .x, (s .y, (rw (c .start .ensures) (sizing-start ts cs), (omega arith, omega arith))))))
+    (c .before .list-len .ensures, (rw (c .start .ensures) (within-start ts), (s .x, (s .y, (rw (c .start .ensures) (sizing-start ts cs), (omega arith, omega arith))))))
 
 shared-slice-read-kind : tie.Need-shared-slice-read-kind Inv-loop μ-loop
 shared-slice-read-kind c =
-    let a = c .before .before .before .before .before .before .before .before .before .args in
+    let a = c .before .before .before .before .before .before .before .args in
     omega (arith, length-commands (now (a .xs)) (now (a .ys)) (now (a .kinds)))
 
 is-new-requires : tie.Need-is-new-requires Inv-loop μ-loop
@@ -57,30 +56,51 @@ is-new-requires c κs = tt
 goes-on-requires : tie.Need-goes-on-requires Inv-loop μ-loop
 goes-on-requires c κs = tt
 
+run-end-requires : tie.Need-run-end-requires Inv-loop μ-loop
+run-end-requires c κs = omega arith
+
+sub-bytes : tie.Need-sub-bytes Inv-loop μ-loop
+sub-bytes c =
+    let a = c .before .before .before .before .before .before .before .before .before .before .before .args in
+    let span = run-span (now (a .xs)) (now (a .ys)) (now (a .kinds)) (c .before .before .before .before .before .before .loop .i) (omega arith) (c .run-end .ensures) in
+    omega (arith, span .0, span .1)
+
+mul-bytes : tie.Need-mul-bytes Inv-loop μ-loop
+mul-bytes c =
+    let a = c .before .before .before .before .before .before .before .before .before .before .before .args in
+    let span = run-span (now (a .xs)) (now (a .ys)) (now (a .kinds)) (c .before .before .before .before .before .before .loop .i) (omega arith) (c .run-end .ensures) in
+    omega (arith, span .0, span .1, length-commands (now (a .xs)) (now (a .ys)) (now (a .kinds)), c .before .before .before .before .before .before .before .before .before .before .before .pre .1)
+
 add-bytes : tie.Need-add-bytes Inv-loop μ-loop
 add-bytes c =
-    let a = c .before .before .before .before .before .before .before .before .before .before .before .before .args in
-    omega (arith, length-commands (now (a .xs)) (now (a .ys)) (now (a .kinds)), c .before .before .before .before .before .before .before .before .before .before .before .before .pre)
-
-add-i : tie.Need-add-i Inv-loop μ-loop
-add-i c = omega arith
+    let a = c .before .before .before .before .before .before .before .before .before .before .before .args in
+    let span = run-span (now (a .xs)) (now (a .ys)) (now (a .kinds)) (c .before .before .before .before .before .before .loop .i) (omega arith) (c .run-end .ensures) in
+    omega (arith, span .0, span .1, length-commands (now (a .xs)) (now (a .ys)) (now (a .kinds)), c .before .before .before .before .before .before .before .before .before .before .before .pre .1)
 
 loop-less : tie.Need-loop-less Inv-loop μ-loop
-loop-less c = omega arith
+loop-less c =
+    let a = c .before .before .before .before .before .before .before .before .before .before .before .args in
+    let span = run-span (now (a .xs)) (now (a .ys)) (now (a .kinds)) (c .before .before .before .before .before .before .loop .i) (omega arith) (c .run-end .ensures) in
+    omega (arith, span .0, span .1)
 
 loop-again : tie.Need-loop-again Inv-loop μ-loop
 loop-again c =
-    let a = c .before .before .before .before .before .before .before .before .before .before .before .before .args in
+    let a = c .before .before .before .before .before .before .before .before .before .before .before .args in
     let ts = threadsOf (now (a .threads)) in
-    let loop = c .before .before .before .before .before .loop in
+    let loop = c .before .before .before .before .before .before .loop in
     let i = loop .i in
     let inv = loop .inv .1 in
     let s = movedTo (stateOf (loop .s)) (inv .1 .0) (inv .1 .1 .0) in
+    let end = c .run-end .result in
     let l : i < length (commands (now (a .xs)) (now (a .ys)) (now (a .kinds))) = omega arith in
-    let on = c .before .goes-on .ensures (c .if1 .taken) in
-    let old : newAt (now (a .xs)) (now (a .ys)) (now (a .kinds)) i s ≡ false = sym (c .before .before .is-new .ensures) ∙ on .0 in
-    let sizing = sizing-on (now (a .xs)) (now (a .ys)) (now (a .kinds)) i s ts old (on .1) l (inv .1 .1 .1 .0) in
-    (loop .inv .0, (within-on (inv .0), (getD (now (a .xs)) i (pos 0), (getD (now (a .ys)) i (pos 0), (sizing, (omega (arith, inv .1 .1 .1 .1 .0), omega (arith, inv .1 .1 .1 .1 .1)))))))
+    let on = c .before .before .goes-on .ensures (c .before .if1 .taken) in
+    let old : newAt (now (a .xs)) (now (a .ys)) (now (a .kinds)) i s ≡ false = sym (c .before .before .before .is-new .ensures) ∙ on .0 in
+    let w = stretch-from (now (a .xs)) (now (a .ys)) (now (a .kinds)) i end s l old (on .1) (c .run-end .ensures) in
+    let sizing = stretch-sizing (now (a .xs)) (now (a .ys)) (now (a .kinds)) ts w (inv .1 .1 .1 .0) in
+    let x = getD (now (a .xs)) (end - 1) (pos 0) in
+    let y = getD (now (a .ys)) (end - 1) (pos 0) in
+    let within = within-on {j = end} (inv .0) (omega (arith, w .some)) (loop .s .x) (loop .s .y) in
+    (loop .inv .0, (within, (x, (y, (sizing, (omega (arith, inv .1 .1 .1 .1 .0, w .some), omega (arith, inv .1 .1 .1 .1 .1, w .some)))))))
 
 is-logged-requires : tie.Need-is-logged-requires Inv-loop μ-loop
 is-logged-requires c κs = tt
@@ -90,79 +110,79 @@ cmd-len-requires c κs = tt
 
 add-bytes-2 : tie.Need-add-bytes-2 Inv-loop μ-loop
 add-bytes-2 c =
-    let a = c .before .before .before .before .before .before .before .before .before .before .before .before .before .before .args in
-    omega (arith, length-commands (now (a .xs)) (now (a .ys)) (now (a .kinds)), c .before .before .before .before .before .before .before .before .before .before .before .before .before .before .pre, c .cmd-len .ensures .1)
+    let a = c .before .before .before .before .before .before .before .before .before .before .before .before .args in
+    omega (arith, length-commands (now (a .xs)) (now (a .ys)) (now (a .kinds)), c .before .before .before .before .before .before .before .before .before .before .before .before .pre .1, c .cmd-len .ensures .1)
 
 one-if-requires : tie.Need-one-if-requires Inv-loop μ-loop
 one-if-requires c κs = tt
 
 add-logged : tie.Need-add-logged Inv-loop μ-loop
 add-logged c =
-    let a = c .before .before .before .before .before .before .before .before .before .before .before .before .before .before .before .args in
-    omega (arith, length-commands (now (a .xs)) (now (a .ys)) (now (a .kinds)), c .before .before .before .before .before .before .before .before .before .before .before .before .before .before .before .pre, c .one-if .ensures .1)
+    let a = c .before .before .before .before .before .before .before .before .before .before .before .before .before .args in
+    omega (arith, length-commands (now (a .xs)) (now (a .ys)) (now (a .kinds)), c .before .before .before .before .before .before .before .before .before .before .before .before .before .pre .1, c .one-if .ensures .1)
 
 last-code-requires : tie.Need-last-code-requires Inv-loop μ-loop
 last-code-requires c κs = tt
 
 mul-next : tie.Need-mul-next Inv-loop μ-loop
 mul-next c =
-    let a = c .before .before .before .before .before .before .before .before .before .before .before .before .before .before .before .before .before .args in
+    let a = c .before .before .before .before .before .before .before .before .before .before .before .before .before .before .args in
     omega (arith, length-commands (now (a .xs)) (now (a .ys)) (now (a .kinds)))
 
 shared-slice-copy-out-next : tie.Need-shared-slice-copy-out-next Inv-loop μ-loop
 shared-slice-copy-out-next c =
-    let a = c .before .before .before .before .before .before .before .before .before .before .before .before .before .before .before .before .before .args in
+    let a = c .before .before .before .before .before .before .before .before .before .before .before .before .before .before .args in
     omega (arith, length-commands (now (a .xs)) (now (a .ys)) (now (a .kinds)))
 
 mul-next-2 : tie.Need-mul-next-2 Inv-loop μ-loop
 mul-next-2 c =
-    let a = c .before .before .before .before .before .before .before .before .before .before .before .before .before .before .before .before .before .before .args in
+    let a = c .before .before .before .before .before .before .before .before .before .before .before .before .before .before .before .args in
     omega (arith, length-commands (now (a .xs)) (now (a .ys)) (now (a .kinds)))
 
 shared-slice-copy-out-next-2 : tie.Need-shared-slice-copy-out-next-2 Inv-loop μ-loop
 shared-slice-copy-out-next-2 c =
-    let a = c .before .before .before .before .before .before .before .before .before .before .before .before .before .before .before .before .before .before .args in
+    let a = c .before .before .before .before .before .before .before .before .before .before .before .before .before .before .before .args in
     omega (arith, length-commands (now (a .xs)) (now (a .ys)) (now (a .kinds)))
 
 next-requires : tie.Need-next-requires Inv-loop μ-loop
 next-requires c κs =
-    let a = c .before .before .before .before .before .before .before .before .before .before .before .before .before .before .before .before .before .before .before .args in
-    let w = c .before .before .before .before .before .before .before .before .before .before .before .before .loop .inv .1 .0 in
-    (c .before .before .before .before .before .before .before .before .before .before .before .before .before .before .before .thread-codes .ensures, omega (arith, length-commands (now (a .xs)) (now (a .ys)) (now (a .kinds)), c .before .before .before .before .before .before .before .before .before .before .before .before .before .before .before .before .before .before .before .pre, w .few-threads, w .few-sections))
+    let a = c .before .before .before .before .before .before .before .before .before .before .before .before .before .before .before .before .args in
+    let w = c .before .before .before .before .before .before .before .before .before .before .before .loop .inv .1 .0 in
+    (c .before .before .before .before .before .before .before .before .before .before .before .before .before .before .before .before .pre .0, omega (arith, length-commands (now (a .xs)) (now (a .ys)) (now (a .kinds)), c .before .before .before .before .before .before .before .before .before .before .before .before .before .before .before .before .pre .1, w .few-threads, w .few-sections))
 
-add-i-2 : tie.Need-add-i-2 Inv-loop μ-loop
-add-i-2 c = omega arith
+add-i : tie.Need-add-i Inv-loop μ-loop
+add-i c = omega arith
 
 loop-less-2 : tie.Need-loop-less-2 Inv-loop μ-loop
 loop-less-2 c = omega arith
 
 loop-again-2 : tie.Need-loop-again-2 Inv-loop μ-loop
 loop-again-2 c =
-    let a = c .before .before .before .before .before .before .before .before .before .before .before .before .before .before .before .before .before .before .before .before .args in
+    let a = c .before .before .before .before .before .before .before .before .before .before .before .before .before .before .before .before .before .args in
     let ts = threadsOf (now (a .threads)) in
-    let loop = c .before .before .before .before .before .before .before .before .before .before .before .before .before .loop in
+    let loop = c .before .before .before .before .before .before .before .before .before .before .before .before .loop in
     let i = loop .i in
     let s = stateOf (loop .s) in
     let inv = loop .inv .1 in
     let l : i < length (commands (now (a .xs)) (now (a .ys)) (now (a .kinds))) = omega arith in
     let x = ret w32 (getD (now (a .xs)) i (pos 0)) (c .before .before .next-arg .given) in
     let y = ret w32 (getD (now (a .ys)) i (pos 0)) (c .before .next-arg2 .given) in
-    let new = c .before .before .before .before .before .before .before .before .before .before .is-new .ensures in
-    let log = rw new at (c .before .before .before .before .before .before .before .is-logged .ensures) in
-    let long = rw new at (c .before .before .before .before .before .before .cmd-len .ensures .0) in
-    let one = rw log at (c .before .before .before .before .before .one-if .ensures .0) in
-    let last = rw log at (c .before .before .before .before .last-code .ensures) in
+    let new = c .before .before .before .before .before .before .before .before .before .is-new .ensures in
+    let log = rw new at (c .before .before .before .before .before .before .is-logged .ensures) in
+    let long = rw new at (c .before .before .before .before .before .cmd-len .ensures .0) in
+    let one = rw log at (c .before .before .before .before .one-if .ensures .0) in
+    let last = rw log at (c .before .before .before .last-code .ensures) in
     let after = rw (new, x, y) at (c .next .ensures) in
     let within = within-more (now (a .xs)) (now (a .ys)) (now (a .kinds)) i s ts (inv .0) in
     let x₀ = inv .1 .0 in
     let y₀ = inv .1 .1 .0 in
     let u = elsewhere (now (a .xs)) (now (a .ys)) (now (a .kinds)) i s ts x₀ y₀ in
     let sizing = rw (after-moved (now (a .xs)) (now (a .ys)) (now (a .kinds)) i s ts x₀ y₀ after) at (sizing-more (now (a .xs)) (now (a .ys)) (now (a .kinds)) i (movedTo s x₀ y₀) ts l (inv .1 .1 .1 .0)) in
-    (loop .inv .0, (rw after within, (u .x, (u .y, (rw (long, one, last) sizing, (omega (arith, inv .1 .1 .1 .1 .0, c .before .before .before .before .before .before .cmd-len .ensures .1), omega (arith, inv .1 .1 .1 .1 .1, c .before .before .before .before .before .one-if .ensures .1)))))))
+    (loop .inv .0, (rw after within, (u .x, (u .y, (rw (long, one, last) sizing, (omega (arith, inv .1 .1 .1 .1 .0, c .before .before .before .before .before .cmd-len .ensures .1), omega (arith, inv .1 .1 .1 .1 .1, c .before .before .before .before .one-if .ensures .1)))))))
 
 returns : tie.Need-returns Inv-loop μ-loop
 returns c =
-    let a = c .before .before .before .before .before .before .before .before .args in
+    let a = c .before .before .before .before .before .before .args in
     let loop = c .before .loop in
     sizing-done (threadsOf (now (a .threads))) (commands (now (a .xs)) (now (a .ys)) (now (a .kinds))) (loop .i) (omega arith) (movedTo (stateOf (loop .s)) (loop .inv .1 .1 .0) (loop .inv .1 .1 .1 .0)) (loop .inv .1 .1 .1 .1 .0)
 
@@ -173,14 +193,15 @@ measured-spec =
     Inv-loop
     μ-loop
     list-len-requires
-    thread-codes-requires
     start-requires
     loop-holds
     shared-slice-read-kind
     is-new-requires
     goes-on-requires
+    run-end-requires
+    sub-bytes
+    mul-bytes
     add-bytes
-    add-i
     loop-less
     loop-again
     is-logged-requires
@@ -194,7 +215,7 @@ measured-spec =
     mul-next-2
     shared-slice-copy-out-next-2
     next-requires
-    add-i-2
+    add-i
     loop-less-2
     loop-again-2
     returns)

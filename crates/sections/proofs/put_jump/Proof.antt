@@ -15,11 +15,12 @@ use Rattle.rules.specs.Pes.{pesPoint, pesCmd}
 use Rattle.laws.specs.Buffers.{put-put, put-length, put-nothing, put-as}
 use Rattle.laws.specs.Ints.{ret}
 use Rattle.laws.specs.Listing.{cmdAt, length-commands}
-use Rattle.sections.specs.States.{stateOf, Near}
-use Rattle.sections.specs.declared.State.{State}
-use Rattle.sections.proofs.Runs.{runFrom, run-some, run-inside, run-x, run-y}
-use Rattle.sections.proofs.Points.{back, near-at}
 use Rattle.laws.specs.Lengths.{length-point}
+use Rattle.pes_cmd.specs.States.{stateOf, Near}
+use Rattle.pes_cmd.specs.declared.State.{State}
+use Rattle.pes_cmd.proofs.Distances.{back}
+use Rattle.sections.proofs.Runs.{runFrom, run-some, run-inside, run-x, run-y}
+use Rattle.sections.proofs.Points.{near-at}
 use Rattle.sections.proofs.Lengths.{jump-long}
 use borrow.Author.Needs.{needs}
 use Rattle.sections.proofs.put_jump.Statement.{statement}

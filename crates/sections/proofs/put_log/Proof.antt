@@ -12,13 +12,15 @@ use Rattle.rules.specs.Pes.{pesStart, colorLog, shorts}
 use Rattle.laws.specs.Buffers.{Writing, writing-start, writing-room, writing-more, writing-done}
 use Rattle.laws.specs.Ints.{ret}
 use Rattle.laws.specs.Listing.{length-commands}
-use Rattle.sections.specs.States.{stateOf, movedTo}
-use Rattle.sections.proofs.Steps.{Within, newAt, entryAt, logAfter, within-start, within-more, within-on, next-entry, log-on, no-entry, elsewhere, after-moved}
+use Rattle.pes_cmd.specs.States.{stateOf, movedTo}
+use Rattle.sections.proofs.Runs.{run-span}
+use Rattle.sections.proofs.Stretch.{stretch-from, stretch-log}
+use Rattle.sections.proofs.Steps.{Within, newAt, entryAt, logAfter, within-start, within-more, within-on, next-entry, no-entry, elsewhere, after-moved}
 use Rattle.sections.proofs.put_log.Statement.{statement}
 use Rattle.sections.proofs.put_log.Tie as tie
 
 abbrev Inv-loop : tie.InvT-loop
-Inv-loop threads xs ys kinds out₀ at n codes s₀ last₀ to₀ i₀ out s last to i =
+Inv-loop codes threads xs ys kinds out₀ at n s₀ last₀ to₀ i₀ out s last to i =
     let cs = commands xs ys kinds in
     let ts = threadsOf threads in
     (n ≡ length cs)
@@ -28,28 +30,25 @@ Inv-loop threads xs ys kinds out₀ at n codes s₀ last₀ to₀ i₀ out s las
     × Writing out₀ at (shorts (colorLog ts 65 (pesStart ts) cs)) out to (shorts (colorLog ts last (movedTo (stateOf s) x y) (drop i cs))))))
 
 abbrev μ-loop : tie.MeasureT-loop
-μ-loop threads xs ys kinds out₀ at n codes s₀ last₀ to₀ i₀ out s last to i = n - i
+μ-loop codes threads xs ys kinds out₀ at n s₀ last₀ to₀ i₀ out s last to i = n - i
 
 list-len-requires : tie.Need-list-len-requires Inv-loop μ-loop
 list-len-requires c κs = tt
 
-thread-codes-requires : tie.Need-thread-codes-requires Inv-loop μ-loop
-thread-codes-requires c κs = tt
-
 start-requires : tie.Need-start-requires Inv-loop μ-loop
-start-requires c κs = c .before .thread-codes .ensures
+start-requires c κs = c .before .before .before .before .pre .0
 
 loop-holds : tie.Need-loop-holds Inv-loop μ-loop
 loop-holds c =
-    let a = c .before .before .before .before .before .before .before .args in
+    let a = c .before .before .before .before .before .args in
     let ts = threadsOf (now (a .threads)) in
     let whole = shorts (colorLog ts 65 (pesStart ts) (commands (now (a .xs)) (now (a .ys)) (now (a .kinds)))) in
     let s = c .start .result in
-    (c .before .before .before .list-len .ensures, (rw (c .start .ensures) (within-start ts), (s .x, (s .y, rw (c .start .ensures) (writing-start (now (a .out)) (a .at) whole (c .before .before .before .before .before .before .before .pre .1))))))
+    (c .before .list-len .ensures, (rw (c .start .ensures) (within-start ts), (s .x, (s .y, rw (c .start .ensures) (writing-start (now (a .out)) (a .at) whole (c .before .before .before .before .before .pre .1 .1))))))
 
 shared-slice-read-kind : tie.Need-shared-slice-read-kind Inv-loop μ-loop
 shared-slice-read-kind c =
-    let a = c .before .before .before .before .before .before .before .before .before .before .args in
+    let a = c .before .before .before .before .before .before .before .before .args in
     omega (arith, length-commands (now (a .xs)) (now (a .ys)) (now (a .kinds)))
 
 is-new-requires : tie.Need-is-new-requires Inv-loop μ-loop
@@ -58,32 +57,40 @@ is-new-requires c κs = tt
 goes-on-requires : tie.Need-goes-on-requires Inv-loop μ-loop
 goes-on-requires c κs = tt
 
-add-i : tie.Need-add-i Inv-loop μ-loop
-add-i c = omega arith
+run-end-requires : tie.Need-run-end-requires Inv-loop μ-loop
+run-end-requires c κs = omega arith
 
 loop-less : tie.Need-loop-less Inv-loop μ-loop
-loop-less c = omega arith
+loop-less c =
+    let a = c .before .before .before .before .before .before .before .before .before .before .before .before .args in
+    let span = run-span (now (a .xs)) (now (a .ys)) (now (a .kinds)) (c .before .before .before .before .before .before .loop .i) (omega arith) (c .run-end .ensures) in
+    omega (arith, span .0, span .1)
 
 loop-again : tie.Need-loop-again Inv-loop μ-loop
 loop-again c =
-    let a = c .before .before .before .before .before .before .before .before .before .before .before .before .before .args in
+    let a = c .before .before .before .before .before .before .before .before .before .before .before .before .args in
     let ts = threadsOf (now (a .threads)) in
-    let loop = c .before .before .before .before .before .loop in
+    let loop = c .before .before .before .before .before .before .loop in
     let i = loop .i in
     let inv = loop .inv .1 in
     let s = movedTo (stateOf (loop .s)) (inv .1 .0) (inv .1 .1 .0) in
+    let end = c .run-end .result in
     let l : i < length (commands (now (a .xs)) (now (a .ys)) (now (a .kinds))) = omega arith in
-    let on = c .before .goes-on .ensures (c .if1 .taken) in
-    let old : newAt (now (a .xs)) (now (a .ys)) (now (a .kinds)) i s ≡ false = sym (c .before .before .is-new .ensures) ∙ on .0 in
-    let e = log-on (now (a .xs)) (now (a .ys)) (now (a .kinds)) i s ts old (on .1) l (loop .last) in
-    (loop .inv .0, (within-on (inv .0), (getD (now (a .xs)) i (pos 0), (getD (now (a .ys)) i (pos 0), rw e at (inv .1 .1 .1)))))
+    let on = c .before .before .goes-on .ensures (c .before .if1 .taken) in
+    let old : newAt (now (a .xs)) (now (a .ys)) (now (a .kinds)) i s ≡ false = sym (c .before .before .before .is-new .ensures) ∙ on .0 in
+    let w = stretch-from (now (a .xs)) (now (a .ys)) (now (a .kinds)) i end s l old (on .1) (c .run-end .ensures) in
+    let e = stretch-log (now (a .xs)) (now (a .ys)) (now (a .kinds)) ts w (loop .last) in
+    let x = getD (now (a .xs)) (end - 1) (pos 0) in
+    let y = getD (now (a .ys)) (end - 1) (pos 0) in
+    let within = within-on {j = end} (inv .0) (omega (arith, w .some)) (loop .s .x) (loop .s .y) in
+    (loop .inv .0, (within, (x, (y, rw e at (inv .1 .1 .1)))))
 
 is-logged-requires : tie.Need-is-logged-requires Inv-loop μ-loop
 is-logged-requires c κs = tt
 
 put-entry-requires : tie.Need-put-entry-requires Inv-loop μ-loop
 put-entry-requires c κs =
-    let a = c .before .before .before .before .before .before .before .before .before .before .before .before .before .before .before .args in
+    let a = c .before .before .before .before .before .before .before .before .before .before .before .before .before .args in
     let ts = threadsOf (now (a .threads)) in
     let loop = c .before .before .before .before .before .before .before .loop in
     let s = movedTo (stateOf (loop .s)) (loop .inv .1 .1 .0) (loop .inv .1 .1 .1 .0) in
@@ -98,52 +105,52 @@ last-code-requires c κs = tt
 
 mul-next : tie.Need-mul-next Inv-loop μ-loop
 mul-next c =
-    let a = c .before .before .before .before .before .before .before .before .before .before .before .before .before .before .before .before .before .before .before .before .args in
-    omega (arith, length-commands (now (a .xs)) (now (a .ys)) (now (a .kinds)), c .before .before .before .before .before .before .before .before .before .before .before .before .before .before .before .before .before .before .before .before .pre .0)
+    let a = c .before .before .before .before .before .before .before .before .before .before .before .before .before .before .before .before .before .args in
+    omega (arith, length-commands (now (a .xs)) (now (a .ys)) (now (a .kinds)), c .before .before .before .before .before .before .before .before .before .before .before .before .before .before .before .before .before .pre .1 .0)
 
 shared-slice-copy-out-next : tie.Need-shared-slice-copy-out-next Inv-loop μ-loop
 shared-slice-copy-out-next c =
-    let a = c .before .before .before .before .before .before .before .before .before .before .before .before .before .before .before .before .before .before .before .before .args in
+    let a = c .before .before .before .before .before .before .before .before .before .before .before .before .before .before .before .before .before .args in
     omega (arith, length-commands (now (a .xs)) (now (a .ys)) (now (a .kinds)))
 
 mul-next-2 : tie.Need-mul-next-2 Inv-loop μ-loop
 mul-next-2 c =
-    let a = c .before .before .before .before .before .before .before .before .before .before .before .before .before .before .before .before .before .before .before .before .before .args in
-    omega (arith, length-commands (now (a .xs)) (now (a .ys)) (now (a .kinds)), c .before .before .before .before .before .before .before .before .before .before .before .before .before .before .before .before .before .before .before .before .before .pre .0)
+    let a = c .before .before .before .before .before .before .before .before .before .before .before .before .before .before .before .before .before .before .args in
+    omega (arith, length-commands (now (a .xs)) (now (a .ys)) (now (a .kinds)), c .before .before .before .before .before .before .before .before .before .before .before .before .before .before .before .before .before .before .pre .1 .0)
 
 shared-slice-copy-out-next-2 : tie.Need-shared-slice-copy-out-next-2 Inv-loop μ-loop
 shared-slice-copy-out-next-2 c =
-    let a = c .before .before .before .before .before .before .before .before .before .before .before .before .before .before .before .before .before .before .before .before .before .args in
+    let a = c .before .before .before .before .before .before .before .before .before .before .before .before .before .before .before .before .before .before .args in
     omega (arith, length-commands (now (a .xs)) (now (a .ys)) (now (a .kinds)))
 
 next-requires : tie.Need-next-requires Inv-loop μ-loop
 next-requires c κs =
-    let a = c .before .before .before .before .before .before .before .before .before .before .before .before .before .before .before .before .before .before .before .before .before .before .args in
-    let w = c .before .before .before .before .before .before .before .before .before .before .before .before .before .before .loop .inv .1 .0 in
-    (c .before .before .before .before .before .before .before .before .before .before .before .before .before .before .before .before .before .thread-codes .ensures, omega (arith, length-commands (now (a .xs)) (now (a .ys)) (now (a .kinds)), c .before .before .before .before .before .before .before .before .before .before .before .before .before .before .before .before .before .before .before .before .before .before .pre .0, w .few-threads, w .few-sections))
+    let a = c .before .before .before .before .before .before .before .before .before .before .before .before .before .before .before .before .before .before .before .args in
+    let w = c .before .before .before .before .before .before .before .before .before .before .before .before .before .loop .inv .1 .0 in
+    (c .before .before .before .before .before .before .before .before .before .before .before .before .before .before .before .before .before .before .before .pre .0, omega (arith, length-commands (now (a .xs)) (now (a .ys)) (now (a .kinds)), c .before .before .before .before .before .before .before .before .before .before .before .before .before .before .before .before .before .before .before .pre .1 .0, w .few-threads, w .few-sections))
 
-add-i-2 : tie.Need-add-i-2 Inv-loop μ-loop
-add-i-2 c =
-    let a = c .before .before .before .before .before .before .before .before .before .before .before .before .before .before .before .before .before .before .before .before .before .before .before .args in
-    omega (arith, length-commands (now (a .xs)) (now (a .ys)) (now (a .kinds)), c .before .before .before .before .before .before .before .before .before .before .before .before .before .before .before .before .before .before .before .before .before .before .before .pre .0)
+add-i : tie.Need-add-i Inv-loop μ-loop
+add-i c =
+    let a = c .before .before .before .before .before .before .before .before .before .before .before .before .before .before .before .before .before .before .before .before .args in
+    omega (arith, length-commands (now (a .xs)) (now (a .ys)) (now (a .kinds)), c .before .before .before .before .before .before .before .before .before .before .before .before .before .before .before .before .before .before .before .before .pre .1 .0)
 
 loop-less-2 : tie.Need-loop-less-2 Inv-loop μ-loop
 loop-less-2 c = omega arith
 
 loop-again-2 : tie.Need-loop-again-2 Inv-loop μ-loop
 loop-again-2 c =
-    let a = c .before .before .before .before .before .before .before .before .before .before .before .before .before .before .before .before .before .before .before .before .before .before .before .args in
+    let a = c .before .before .before .before .before .before .before .before .before .before .before .before .before .before .before .before .before .before .before .before .args in
     let ts = threadsOf (now (a .threads)) in
-    let loop = c .before .before .before .before .before .before .before .before .before .before .before .before .before .before .before .loop in
+    let loop = c .before .before .before .before .before .before .before .before .before .before .before .before .before .before .loop in
     let i = loop .i in
     let s = stateOf (loop .s) in
     let l : i < length (commands (now (a .xs)) (now (a .ys)) (now (a .kinds))) = omega arith in
     let x = ret w32 (getD (now (a .xs)) i (pos 0)) (c .before .before .next-arg .given) in
     let y = ret w32 (getD (now (a .ys)) i (pos 0)) (c .before .next-arg2 .given) in
-    let new = c .before .before .before .before .before .before .before .before .before .before .before .before .is-new .ensures in
-    let log = rw new at (c .before .before .before .before .before .before .before .before .before .is-logged .ensures) in
-    let put = rw log at (c .before .before .before .before .before .before .before .put-entry .ensures) in
-    let last = rw log at (c .before .before .before .before .last-code .ensures) in
+    let new = c .before .before .before .before .before .before .before .before .before .before .before .is-new .ensures in
+    let log = rw new at (c .before .before .before .before .before .before .before .before .is-logged .ensures) in
+    let put = rw log at (c .before .before .before .before .before .before .put-entry .ensures) in
+    let last = rw log at (c .before .before .before .last-code .ensures) in
     let after = rw (new, x, y) at (c .next .ensures) in
     let within = within-more (now (a .xs)) (now (a .ys)) (now (a .kinds)) i s ts (loop .inv .1 .0) in
     let x₀ = loop .inv .1 .1 .0 in
@@ -158,7 +165,7 @@ same-length c = c .before .loop .inv .1 .1 .1 .1 .same
 
 returns : tie.Need-returns Inv-loop μ-loop
 returns c =
-    let a = c .before .before .before .before .before .before .before .before .before .args in
+    let a = c .before .before .before .before .before .before .before .args in
     let loop = c .before .loop in
     let none = no-entry (threadsOf (now (a .threads))) (commands (now (a .xs)) (now (a .ys)) (now (a .kinds))) (loop .i) (omega arith) (movedTo (stateOf (loop .s)) (loop .inv .1 .1 .0) (loop .inv .1 .1 .1 .0)) (loop .last) in
     writing-done (loop .inv .1 .1 .1 .1) none
@@ -170,13 +177,12 @@ put-log-spec =
     Inv-loop
     μ-loop
     list-len-requires
-    thread-codes-requires
     start-requires
     loop-holds
     shared-slice-read-kind
     is-new-requires
     goes-on-requires
-    add-i
+    run-end-requires
     loop-less
     loop-again
     is-logged-requires
@@ -187,7 +193,7 @@ put-log-spec =
     mul-next-2
     shared-slice-copy-out-next-2
     next-requires
-    add-i-2
+    add-i
     loop-less-2
     loop-again-2
     same-length

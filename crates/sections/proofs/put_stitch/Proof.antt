@@ -12,9 +12,9 @@ use Rattle.rules.specs.Pes.{runLength, pesPoint, pesCmd}
 use Rattle.laws.specs.Buffers.{put-put, put-length, put-as}
 use Rattle.laws.specs.Ints.{ret}
 use Rattle.laws.specs.Listing.{cmdAt, length-commands}
-use Rattle.sections.specs.States.{stateOf, Near}
-use Rattle.sections.proofs.Points.{back}
 use Rattle.laws.specs.Lengths.{length-point}
+use Rattle.pes_cmd.specs.States.{stateOf, Near}
+use Rattle.pes_cmd.proofs.Distances.{back}
 use Rattle.sections.proofs.Lengths.{stitch-room}
 use borrow.Author.Needs.{needs}
 use Rattle.sections.proofs.put_stitch.Statement.{statement}

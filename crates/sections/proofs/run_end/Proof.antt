@@ -1,5 +1,5 @@
 -- The place reached and what is left of the run from there come to where the run ends.
-use mathlib.Core.Path.{_≡_, refl}
+use mathlib.Core.Path.{_≡_}
 use Prim.Native.Nat.{_+_, _-_}
 use native.Mathlib.Omega.{arith}
 use denote.Ref.{now}
@@ -7,6 +7,7 @@ use lib.ListN.{length, drop, getD}
 use Rattle.rules.specs.Lists.{commands}
 use Rattle.rules.specs.Pes.{runLength}
 use Rattle.laws.specs.Listing.{length-commands}
+use Rattle.sections.proofs.Alike.{alike-run}
 use Rattle.sections.proofs.Runs.{run-more, run-stops, run-none}
 use Rattle.sections.proofs.run_end.Statement.{statement}
 use Rattle.sections.proofs.run_end.Tie as tie
@@ -27,17 +28,29 @@ shared-slice-read-kind c =
     let a = c .before .before .before .args in
     omega (arith, length-commands (now (a .xs)) (now (a .ys)) (now (a .kinds)))
 
+alike-till-requires : tie.Need-alike-till-requires Inv-loop μ-loop
+alike-till-requires c κs =
+    let a = c .before .before .before .args in
+    let long = length-commands (now (a .xs)) (now (a .ys)) (now (a .kinds)) in
+    (omega (arith, c .before .list-len .ensures), omega (arith, long, c .before .list-len .ensures))
+
 loop-holds : tie.Need-loop-holds Inv-loop μ-loop
-loop-holds c = (c .before .list-len .ensures, refl)
+loop-holds c =
+    let a = c .before .before .before .before .args in
+    let n = c .before .before .list-len .ensures in
+    let end = c .alike-till .result in
+    let w = c .alike-till .ensures in
+    let kind = getD (now (a .kinds)) (a .from) 0 in
+    (n, alike-run (now (a .xs)) (now (a .ys)) (now (a .kinds)) kind (end - a .from) (a .from) end (omega (arith, w .0)) (omega (arith, w .1 .0, n)) (w .1 .1))
 
 shared-slice-read-if1 : tie.Need-shared-slice-read-if1 Inv-loop μ-loop
 shared-slice-read-if1 c =
-    let a = c .before .before .before .before .before .before .args in
+    let a = c .before .before .before .before .before .before .before .args in
     omega (arith, length-commands (now (a .xs)) (now (a .ys)) (now (a .kinds)))
 
 returns : tie.Need-returns Inv-loop μ-loop
 returns c =
-    let a = c .before .before .before .before .before .before .before .args in
+    let a = c .before .before .before .before .before .before .before .before .args in
     let loop = c .before .before .before .loop in
     let stop = run-stops (now (a .xs)) (now (a .ys)) (now (a .kinds)) (loop .i) (getD (now (a .kinds)) (a .from) 0) (omega arith) (c .if1 .taken) in
     omega (arith, stop, loop .inv .1)
@@ -50,14 +63,14 @@ loop-less c = omega arith
 
 loop-again : tie.Need-loop-again Inv-loop μ-loop
 loop-again c =
-    let a = c .before .before .before .before .before .before .before .args in
+    let a = c .before .before .before .before .before .before .before .before .args in
     let loop = c .before .before .before .loop in
     let more = run-more (now (a .xs)) (now (a .ys)) (now (a .kinds)) (loop .i) (getD (now (a .kinds)) (a .from) 0) (omega arith) (c .if1 .left) in
     (loop .inv .0, omega (arith, more, loop .inv .1))
 
 returns-2 : tie.Need-returns-2 Inv-loop μ-loop
 returns-2 c =
-    let a = c .before .before .before .before .before .args in
+    let a = c .before .before .before .before .before .before .args in
     let loop = c .before .loop in
     let none = run-none (now (a .xs)) (now (a .ys)) (now (a .kinds)) (loop .i) (getD (now (a .kinds)) (a .from) 0) (omega arith) in
     omega (arith, none, loop .inv .1)
@@ -70,6 +83,7 @@ run-end-spec =
     μ-loop
     list-len-requires
     shared-slice-read-kind
+    alike-till-requires
     loop-holds
     shared-slice-read-if1
     returns

@@ -7,7 +7,7 @@ use lib.ListN.{length}
 use Rattle.rules.specs.Lists.{commands}
 use Rattle.laws.specs.Buffers.{Writing, writing-start, writing-done}
 use Rattle.laws.specs.Listing.{length-commands}
-use Rattle.thumbnails.specs.Blocks.{blockIcons}
+use Rattle.tables.specs.Blocks.{blockIcons}
 use Rattle.thumbnails.proofs.Ends.{end-le, iconsFrom, icons-all, icons-none, block-room, block-more}
 use Rattle.thumbnails.proofs.put_blocks.Statement.{statement}
 use Rattle.thumbnails.proofs.put_blocks.Tie as tie

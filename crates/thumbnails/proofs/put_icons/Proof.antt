@@ -1,12 +1,14 @@
--- The picture of the whole, then those of the blocks.
-use native.Mathlib.Omega.{arith}
+-- Both ways put the picture of the whole, then those of the blocks.
 use denote.Ref.{now}
+use lib.ListN.{length}
+use mir.Facts.{toZ-ofZ}
 use mir.Syntax.{w32}
 use mir.Val.{SFits}
 use Rattle.rules.specs.Lists.{commands}
 use Rattle.rules.specs.Thumbnails.{f4, f5}
-use Rattle.laws.specs.Lengths.{length-icons}
-use Rattle.thumbnails.proofs.Whole.{scale-is, blocks-room, icons-put}
+use Rattle.laws.specs.Buffers.{put-as}
+use Rattle.thumbnails.proofs.Framed.{framed-as}
+use Rattle.thumbnails.proofs.Whole.{scale-is, icons-are, icons-room}
 use borrow.Author.Needs.{needs}
 use Rattle.thumbnails.proofs.put_icons.Statement.{statement}
 use Rattle.thumbnails.proofs.put_icons.Tie as tie
@@ -14,55 +16,87 @@ use Rattle.thumbnails.proofs.put_icons.Tie as tie
 list-len-requires : tie.Need-list-len-requires
 list-len-requires c κs = search needs
 
-stream-bounds-requires : tie.Need-stream-bounds-requires
-stream-bounds-requires c κs = search needs
-
 scale-of-requires : tie.Need-scale-of-requires
 scale-of-requires c κs = search needs
 
 scale-of-requires-2 : tie.Need-scale-of-requires-2
 scale-of-requires-2 c κs = search needs
 
-draw-scaled-requires : tie.Need-draw-scaled-requires
-draw-scaled-requires c κs = (omega arith, omega (arith, c .before .before .before .before .before .before .before .before .before .before .before .list-len .ensures))
+places-requires : tie.Need-places-requires
+places-requires c κs = search needs
 
-put-icon-requires : tie.Need-put-icon-requires
-put-icon-requires c κs =
-    let a = c .before .before .before .before .before .before .before .before .before .before .before .before .before .before .before .before .args in
-    omega (arith, length-icons (commands (now (a .xs)) (now (a .ys)) (now (a .kinds))), c .before .before .before .before .before .before .before .before .before .before .before .before .before .before .before .before .pre)
+places-requires-2 : tie.Need-places-requires-2
+places-requires-2 c κs = search needs
 
-put-blocks-requires : tie.Need-put-blocks-requires
-put-blocks-requires c κs =
-    let a = c .before .before .before .before .before .before .before .before .before .before .before .before .before .before .before .before .before .before .before .before .args in
-    blocks-room (commands (now (a .xs)) (now (a .ys)) (now (a .kinds))) (c .before .before .before .before .before .before .before .before .before .before .before .before .before .before .before .before .before .list-len .result) (c .before .before .before .before .before .before .before .before .before .before .before .scale-of .result) (c .before .before .before .before .before .before .scale-of2 .result) (c .before .before .before .before .before .draw-scaled .ensures) (c .before .before .before .put-icon .ensures) (c .before .before .before .before .before .before .before .before .before .before .before .before .before .before .before .before .before .before .before .before .pre)
+has-tables-requires : tie.Need-has-tables-requires
+has-tables-requires c κs = search needs
+
+put-by-tables-requires : tie.Need-put-by-tables-requires
+put-by-tables-requires c κs =
+    let a = c .before .before .before .before .before .before .before .before .before .before .before .before .before .before .before .before .before .before .before .before .before .before .before .before .before .before .args in
+    let cs = commands (now (a .xs)) (now (a .ys)) (now (a .kinds)) in
+    let b = a .b in
+    let told = c .before .before .before .before .before .before .before .before .before .before .before .before .before .before .before .before .before .before .before .before .before .before .struct-told .given in
+    let x : SFits w32 (b .min .x) = search (needs, told) in
+    let y : SFits w32 (b .min .y) = search (needs, told) in
+    let x′ : SFits w32 (b .max .x) = search (needs, told) in
+    let y′ : SFits w32 (b .max .y) = search (needs, told) in
+    let held = c .before .before .before .before .has-tables .ensures (c .before .before .before .if1 .taken) in
+    let frame = framed-as cs (c .before .before .before .before .before .before .before .before .before .before .before .before .before .before .before .before .before .before .before .before .before .before .before .before .before .before .pre .0) (toZ-ofZ x) (toZ-ofZ x′) (toZ-ofZ y) (toZ-ofZ y′) (c .before .before .before .before .before .before .before .before .before .before .places .ensures) (c .before .before .before .before .before .before .before .places2 .ensures) in
+    (held, (frame, icons-room cs (c .before .before .before .before .before .before .before .before .before .before .before .before .before .scale-of2 .result) (a .at) (length (now (a .out))) (c .before .before .before .before .before .before .before .before .before .before .before .before .before .before .before .before .before .before .before .before .before .before .before .before .before .before .pre .1)))
 
 same-length : tie.Need-same-length
 same-length c = search needs
 
 returns : tie.Need-returns
 returns c =
-    let a = c .before .before .before .before .before .before .before .before .before .before .before .before .before .before .before .before .before .before .before .before .before .before .before .args in
+    let a = c .before .before .before .before .before .before .before .before .before .before .before .before .before .before .before .before .before .before .before .before .before .before .before .before .before .before .before .before .before .args in
     let cs = commands (now (a .xs)) (now (a .ys)) (now (a .kinds)) in
-    let b = c .before .before .before .before .before .before .before .before .before .before .before .before .before .before .before .before .before .before .before .stream-bounds in
-    let told = c .before .before .before .before .before .before .before .before .before .before .before .before .before .before .before .before .before .before .struct-told .given in
-    let x : SFits w32 (b .result .min .x) = search (needs, told) in
-    let y : SFits w32 (b .result .min .y) = search (needs, told) in
-    let x′ : SFits w32 (b .result .max .x) = search (needs, told) in
-    let y′ : SFits w32 (b .result .max .y) = search (needs, told) in
-    let whole = scale-is cs f4 (b .ensures) x y x′ y′ (c .before .before .before .before .before .before .before .before .before .before .before .before .before .before .scale-of .ensures) in
-    let part = scale-is cs f5 (b .ensures) x y x′ y′ (c .before .before .before .before .before .before .before .before .before .scale-of2 .ensures) in
-    icons-put cs (c .before .before .before .before .before .before .before .before .before .before .before .before .before .before .before .before .before .before .before .before .list-len .result) (c .before .before .before .before .before .before .before .before .before .before .before .before .before .before .scale-of .result) (c .before .before .before .before .before .before .before .before .before .scale-of2 .result) (c .before .before .before .before .before .before .before .before .draw-scaled .ensures) (c .before .before .before .before .before .before .put-icon .ensures) (c .before .before .before .before .before .before .before .before .before .before .before .before .before .before .before .before .before .before .before .before .list-len .ensures) whole part (c .before .before .put-blocks .ensures)
+    let b = a .b in
+    let told = c .before .before .before .before .before .before .before .before .before .before .before .before .before .before .before .before .before .before .before .before .before .before .before .before .before .struct-told .given in
+    let x : SFits w32 (b .min .x) = search (needs, told) in
+    let y : SFits w32 (b .min .y) = search (needs, told) in
+    let x′ : SFits w32 (b .max .x) = search (needs, told) in
+    let y′ : SFits w32 (b .max .y) = search (needs, told) in
+    let whole = scale-is cs f4 (c .before .before .before .before .before .before .before .before .before .before .before .before .before .before .before .before .before .before .before .before .before .before .before .before .before .before .before .before .before .pre .0) x y x′ y′ (c .before .before .before .before .before .before .before .before .before .before .before .before .before .before .before .before .before .before .before .before .before .scale-of .ensures) in
+    let part = scale-is cs f5 (c .before .before .before .before .before .before .before .before .before .before .before .before .before .before .before .before .before .before .before .before .before .before .before .before .before .before .before .before .before .pre .0) x y x′ y′ (c .before .before .before .before .before .before .before .before .before .before .before .before .before .before .before .before .scale-of2 .ensures) in
+    put-as (c .before .before .put-by-tables .ensures) (icons-are cs whole part)
+
+put-plainly-requires : tie.Need-put-plainly-requires
+put-plainly-requires c κs =
+    let a = c .before .before .before .before .before .before .before .before .before .before .before .before .before .before .before .before .before .before .before .before .before .before .before .before .args in
+    icons-room (commands (now (a .xs)) (now (a .ys)) (now (a .kinds))) (c .before .before .before .before .before .before .before .before .before .before .before .scale-of2 .result) (a .at) (length (now (a .out))) (c .before .before .before .before .before .before .before .before .before .before .before .before .before .before .before .before .before .before .before .before .before .before .before .before .pre .1)
+
+same-length-2 : tie.Need-same-length-2
+same-length-2 c = search needs
+
+returns-2 : tie.Need-returns-2
+returns-2 c =
+    let a = c .before .before .before .before .before .before .before .before .before .before .before .before .before .before .before .before .before .before .before .before .before .before .before .before .before .before .before .args in
+    let cs = commands (now (a .xs)) (now (a .ys)) (now (a .kinds)) in
+    let b = a .b in
+    let told = c .before .before .before .before .before .before .before .before .before .before .before .before .before .before .before .before .before .before .before .before .before .before .before .struct-told .given in
+    let x : SFits w32 (b .min .x) = search (needs, told) in
+    let y : SFits w32 (b .min .y) = search (needs, told) in
+    let x′ : SFits w32 (b .max .x) = search (needs, told) in
+    let y′ : SFits w32 (b .max .y) = search (needs, told) in
+    let whole = scale-is cs f4 (c .before .before .before .before .before .before .before .before .before .before .before .before .before .before .before .before .before .before .before .before .before .before .before .before .before .before .before .pre .0) x y x′ y′ (c .before .before .before .before .before .before .before .before .before .before .before .before .before .before .before .before .before .before .before .scale-of .ensures) in
+    let part = scale-is cs f5 (c .before .before .before .before .before .before .before .before .before .before .before .before .before .before .before .before .before .before .before .before .before .before .before .before .before .before .before .pre .0) x y x′ y′ (c .before .before .before .before .before .before .before .before .before .before .before .before .before .before .scale-of2 .ensures) in
+    put-as (c .before .before .put-plainly .ensures) (icons-are cs whole part)
 
 pub put-icons-spec : {M : Type 1} → statement M
 put-icons-spec =
     tie.close
     (tie.spec
     list-len-requires
-    stream-bounds-requires
     scale-of-requires
     scale-of-requires-2
-    draw-scaled-requires
-    put-icon-requires
-    put-blocks-requires
+    places-requires
+    places-requires-2
+    has-tables-requires
+    put-by-tables-requires
     same-length
-    returns)
+    returns
+    put-plainly-requires
+    same-length-2
+    returns-2)

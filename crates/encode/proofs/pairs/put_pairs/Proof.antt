@@ -11,8 +11,8 @@ use mir.Syntax.{w32}
 use mir.Val.{toZ}
 use Rattle.rules.specs.Lists.{commands}
 use Rattle.rules.specs.Exp.{pairOf}
-use Rattle.encode.specs.Cmds.{pairFormat}
-use Rattle.encode.proofs.Bytes.{stitch-pair, pair-step}
+use Rattle.encode_cmd.specs.Cmds.{pairFormat}
+use Rattle.encode_cmd.proofs.Bytes.{stitch-pair, pair-step}
 use Rattle.laws.specs.Ints.{ret}
 use Rattle.laws.specs.Listing.{length-commands}
 use Rattle.encode.proofs.Stream.{Turn, Going, one-step, next-step, one-turn, two-stitches, going-start, going-room, going-on, going-done}

@@ -14,14 +14,14 @@ put-header-requires c κs =
     let a = c .before .before .before .before .args in
     let cs = commands (now (a .xs)) (now (a .ys)) (now (a .kinds)) in
     let ts = threadsOf (now (a .threads)) in
-    ((c .before .before .before .before .pre .0 .0, c .before .before .before .before .pre .0 .1 .0), omega (arith, length-file cs ts, c .before .before .before .before .pre .1))
+    ((c .before .before .before .before .pre .0 .0, c .before .before .before .before .pre .0 .1 .0), (c .before .before .before .before .pre .1 .0, omega (arith, length-file cs ts, c .before .before .before .before .pre .1 .1)))
 
 put-stream-requires : tie.Need-put-stream-requires
 put-stream-requires c κs =
     let a = c .before .before .before .before .before .before .before .before .args in
     let cs = commands (now (a .xs)) (now (a .ys)) (now (a .kinds)) in
     let ts = threadsOf (now (a .threads)) in
-    (c .before .before .before .before .before .before .before .before .pre .0 .1 .1, omega (arith, length-file cs ts, c .before .before .before .put-header .ensures .ends, put-length (c .before .before .before .put-header .ensures), c .before .before .before .before .before .before .before .before .pre .1))
+    (c .before .before .before .before .before .before .before .before .pre .0 .1 .1, omega (arith, length-file cs ts, c .before .before .before .put-header .ensures .ends, put-length (c .before .before .before .put-header .ensures), c .before .before .before .before .before .before .before .before .pre .1 .1))
 
 same-length : tie.Need-same-length
 same-length c = search needs

@@ -12,8 +12,8 @@ use Rattle.more.proofs.jef.put_header.Tie as tie
 table-len-requires : tie.Need-table-len-requires
 table-len-requires c κs = search needs
 
-stream-bounds-requires : tie.Need-stream-bounds-requires
-stream-bounds-requires c κs = search needs
+near-bounds-requires : tie.Need-near-bounds-requires
+near-bounds-requires c κs = search needs
 
 spread-requires : tie.Need-spread-requires
 spread-requires c κs = search needs
@@ -32,14 +32,14 @@ put-start-requires c κs =
     let a = c .before .before .before .before .before .before .before .before .before .before .before .before .before .before .args in
     let cs = commands (now (a .xs)) (now (a .ys)) (now (a .kinds)) in
     let ts = threadsOf (now (a .threads)) in
-    (table-short (now (a .threads)) (c .before .before .before .before .before .before .before .before .before .before .before .before .before .before .pre .0 .1) (c .before .before .before .before .before .before .before .before .before .before .table-len .ensures), room-start cs ts (now (a .out)) (c .before .before .before .before .before .before .before .before .before .before .before .before .before .before .pre .1))
+    (table-short (now (a .threads)) (c .before .before .before .before .before .before .before .before .before .before .before .before .before .before .pre .0 .1) (c .before .before .before .before .before .before .before .before .before .before .table-len .ensures), room-start cs ts (now (a .out)) (c .before .before .before .before .before .before .before .before .before .before .before .before .before .before .pre .1 .1))
 
 put-sizes-requires : tie.Need-put-sizes-requires
 put-sizes-requires c κs =
     let a = c .before .before .before .before .before .before .before .before .before .before .before .before .before .before .before .before .before .before .args in
     let cs = commands (now (a .xs)) (now (a .ys)) (now (a .kinds)) in
     let ts = threadsOf (now (a .threads)) in
-    room-sizes cs ts (now (a .out)) (c .before .before .before .before .before .before .before .before .before .before .before .before .before .before .before .before .before .before .pre .1)
+    room-sizes cs ts (now (a .out)) (c .before .before .before .before .before .before .before .before .before .before .before .before .before .before .before .before .before .before .pre .1 .1)
     (c .before .before .before .put-start .ensures) (length-start (c .before .before .before .before .before .before .before .before .before .before .before .before .before .before .table-len .result) (c .before .before .before .before .before .before .point-count .result) (c .before .before .before .before .before .jef-hoop .result))
 
 jef-palette-requires : tie.Need-jef-palette-requires
@@ -47,7 +47,7 @@ jef-palette-requires c κs =
     let a = c .before .before .before .before .before .before .before .before .before .before .before .before .before .before .before .before .before .before .before .before .before .before .args in
     let cs = commands (now (a .xs)) (now (a .ys)) (now (a .kinds)) in
     let ts = threadsOf (now (a .threads)) in
-    room-table cs ts (now (a .out)) (c .before .before .before .before .before .before .before .before .before .before .before .before .before .before .before .before .before .before .before .before .before .before .pre .1)
+    room-table cs ts (now (a .out)) (c .before .before .before .before .before .before .before .before .before .before .before .before .before .before .before .before .before .before .before .before .before .before .pre .1 .1)
     (c .before .before .before .before .before .before .before .put-start .ensures) (length-start (c .before .before .before .before .before .before .before .before .before .before .before .before .before .before .before .before .before .before .table-len .result) (c .before .before .before .before .before .before .before .before .before .before .point-count .result) (c .before .before .before .before .before .before .before .before .before .jef-hoop .result))
     (c .before .before .before .put-sizes .ensures) (length-sizes (c .before .before .before .before .before .before .before .before .before .before .before .before .before .before .spread .result) (c .before .before .before .before .before .before .before .before .before .before .before .spread2 .result))
 
@@ -56,7 +56,7 @@ put-kinds-requires c κs =
     let a = c .before .before .before .before .before .before .before .before .before .before .before .before .before .before .before .before .before .before .before .before .before .before .before .before .before .before .args in
     let cs = commands (now (a .xs)) (now (a .ys)) (now (a .kinds)) in
     let ts = threadsOf (now (a .threads)) in
-    room-kinds cs ts (now (a .out)) (c .before .before .before .before .before .before .before .before .before .before .before .before .before .before .before .before .before .before .before .before .before .before .before .before .before .before .pre .1)
+    room-kinds cs ts (now (a .out)) (c .before .before .before .before .before .before .before .before .before .before .before .before .before .before .before .before .before .before .before .before .before .before .before .before .before .before .pre .1 .1)
     (c .before .before .before .before .before .before .before .before .before .before .before .put-start .ensures) (length-start (c .before .before .before .before .before .before .before .before .before .before .before .before .before .before .before .before .before .before .before .before .before .before .table-len .result) (c .before .before .before .before .before .before .before .before .before .before .before .before .before .before .point-count .result) (c .before .before .before .before .before .before .before .before .before .before .before .before .before .jef-hoop .result))
     (c .before .before .before .before .before .before .before .put-sizes .ensures) (length-sizes (c .before .before .before .before .before .before .before .before .before .before .before .before .before .before .before .before .before .before .spread .result) (c .before .before .before .before .before .before .before .before .before .before .before .before .before .before .before .spread2 .result))
     (c .before .before .before .jef-palette .ensures) (c .before .before .before .before .before .before .before .before .before .before .before .before .before .before .before .before .before .before .before .before .before .before .table-len .ensures)
@@ -69,7 +69,7 @@ returns c =
     let a = c .before .before .before .before .before .before .before .before .before .before .before .before .before .before .before .before .before .before .before .before .before .before .before .before .before .before .before .before .before .args in
     let cs = commands (now (a .xs)) (now (a .ys)) (now (a .kinds)) in
     let ts = threadsOf (now (a .threads)) in
-    let b = c .before .before .before .before .before .before .before .before .before .before .before .before .before .before .before .before .before .before .before .before .before .before .before .before .stream-bounds in
+    let b = c .before .before .before .before .before .before .before .before .before .before .before .before .before .before .before .before .before .before .before .before .before .before .before .before .near-bounds in
     let w = width-is cs (b .ensures) (search (needs, c .before .before .before .before .before .before .before .before .before .before .before .before .before .before .before .before .before .before .before .before .before .before .before .struct-told .given)) (search (needs, c .before .before .before .before .before .before .before .before .before .before .before .before .before .before .before .before .before .before .before .before .before .before .struct-told2 .given)) (c .before .before .before .before .before .before .before .before .before .before .before .before .before .before .before .before .before .before .before .before .before .spread .ensures) in
     let h = height-is cs (b .ensures) (search (needs, c .before .before .before .before .before .before .before .before .before .before .before .before .before .before .before .before .before .before .before .before .struct-told3 .given)) (search (needs, c .before .before .before .before .before .before .before .before .before .before .before .before .before .before .before .before .before .before .before .struct-told4 .given)) (c .before .before .before .before .before .before .before .before .before .before .before .before .before .before .before .before .before .before .spread2 .ensures) in
     put-as
@@ -81,7 +81,7 @@ put-header-spec =
     tie.close
     (tie.spec
     table-len-requires
-    stream-bounds-requires
+    near-bounds-requires
     spread-requires
     spread-requires-2
     point-count-requires

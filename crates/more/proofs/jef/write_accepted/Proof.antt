@@ -45,7 +45,7 @@ put-file-requires c κs =
     let a = c .before .before .before .before .before .before .before .args in
     let cs = commands (now (a .xs)) (now (a .ys)) (now (a .kinds)) in
     let ts = threadsOf (now (a .threads)) in
-    (c .before .before .before .before .before .before .before .pre, omega (arith, length-file cs ts, length-header cs ts, c .before .before .before .table-len .ensures, c .before .before .stream-len .ensures, c .before .if1 .left))
+    (c .before .before .before .before .before .before .before .pre .0, (c .before .before .before .before .before .before .before .pre .1, omega (arith, length-file cs ts, length-header cs ts, c .before .before .before .table-len .ensures, c .before .before .stream-len .ensures, c .before .if1 .left)))
 
 same-length : tie.Need-same-length
 same-length c = search needs

@@ -20,7 +20,7 @@ write-accepted-requires : tie.Need-write-accepted-requires
 write-accepted-requires c κs =
     let a = c .before .before .before .before .before .before .before .args in
     let g = fine Jef (now (a .xs)) (now (a .ys)) (now (a .kinds)) (now (a .threads)) (sym (c .before .before .before .check-list .ensures) ∙ c .before .enum-told .given .1) in
-    (g .long, (g .few, g .steps))
+    ((g .long, (g .few, g .steps)), g .places)
 
 enum-known-checked : tie.Need-enum-known-checked
 enum-known-checked c = search needs

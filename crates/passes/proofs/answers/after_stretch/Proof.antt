@@ -1,5 +1,5 @@
 -- By what the two calls ensure.
-use Rattle.passes.proofs.Places.{kept}
+use Rattle.builder.proofs.Places.{kept}
 use borrow.Author.Needs.{needs}
 use Rattle.passes.proofs.answers.after_stretch.Statement.{statement}
 use Rattle.passes.proofs.answers.after_stretch.Tie as tie

@@ -5,8 +5,8 @@ use mathlib.Core.Path.{ap}
 use denote.Ref.{now}
 use lib.ListN.{length, length-set}
 use Rattle.rules.specs.Answers.{blockOf}
-use Rattle.passes.specs.Colour.{colourIn}
-use Rattle.passes.proofs.Parts.{listed}
+use Rattle.builder.proofs.Parts.{listed}
+use Rattle.builder.specs.Colour.{colourIn}
 use borrow.Author.Needs.{needs}
 use Rattle.passes.proofs.answers.put_block.Statement.{statement}
 use Rattle.passes.proofs.answers.put_block.Tie as tie

@@ -3,7 +3,7 @@ use native.Mathlib.Omega.{arith}
 use mathlib.Core.Path.{ap}
 use lib.ListN.{length}
 use Rattle.rules.specs.Answers.{runOf}
-use Rattle.passes.proofs.Parts.{in-run}
+use Rattle.builder.proofs.Parts.{in-run}
 use borrow.Author.Needs.{needs}
 use Rattle.passes.proofs.answers.put_run.Statement.{statement}
 use Rattle.passes.proofs.answers.put_run.Tie as tie

@@ -4,8 +4,8 @@ use mathlib.Core.Path.{ap, _∙_}
 use native.Mathlib.Omega.{arith}
 use lib.ListN.{length}
 use Rattle.rules.specs.Answers.{startOf}
-use Rattle.passes.proofs.Parts.{in-run}
-use Rattle.passes.proofs.Places.{kept}
+use Rattle.builder.proofs.Parts.{in-run}
+use Rattle.builder.proofs.Places.{kept}
 use Rattle.passes.proofs.Stretches.{start-some}
 use borrow.Author.Needs.{needs}
 use Rattle.passes.proofs.answers.put_start.Statement.{statement}

@@ -7,7 +7,7 @@ use mir.Facts.{toZ-ofZ}
 use lib.ListN.{length}
 use Rattle.rules.specs.Answers.{startOf}
 use Rattle.laws.specs.Buffers.{sets-append}
-use Rattle.passes.proofs.Parts.{may-open, point-cells}
+use Rattle.builder.proofs.Parts.{may-open, point-cells}
 use borrow.Author.Needs.{needs}
 use Rattle.passes.proofs.answers.put_stitch.Statement.{statement}
 use Rattle.passes.proofs.answers.put_stitch.Tie as tie

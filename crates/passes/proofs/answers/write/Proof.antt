@@ -6,7 +6,7 @@ use lib.IntN.{_+ℤ_}
 use lib.ListN.{length-append}
 use Rattle.laws.specs.Ints.{ret}
 use Rattle.records.specs.Fields.{dxOf, dyOf}
-use Rattle.passes.proofs.Places.{kept}
+use Rattle.builder.proofs.Places.{kept}
 use borrow.Author.Needs.{needs}
 use Rattle.passes.proofs.answers.write.Statement.{statement}
 use Rattle.passes.proofs.answers.write.Tie as tie

@@ -9,8 +9,8 @@ use mir.Val.{toZ}
 use Rattle.rules.specs.Files.{firstOf}
 use Rattle.laws.specs.Ints.{ret}
 use Rattle.records.specs.Fields.{dxOf, dyOf}
+use Rattle.builder.proofs.Places.{Step}
 use Rattle.passes.specs.Stretches.{StitchAt, more, Drawn}
-use Rattle.passes.proofs.Places.{Step}
 use Rattle.passes.proofs.Stretches.{above, plain-here, span, reach-on, drawn-start, drawn-length, drawn-more}
 use Rattle.passes.proofs.stretch.draw_plain.Statement.{statement}
 use Rattle.passes.proofs.stretch.draw_plain.Tie as tie

@@ -1,0 +1,8 @@
+-- What the proofs cite, here and in the crates above.
+pub mod Parts
+pub mod Colours
+pub mod Places
+pub mod Sewn
+pub mod Lent
+pub mod Methods
+pub mod Lenders

@@ -1,0 +1,18 @@
+-- One stitch of some.
+use mir.Facts.{toZ-ofZ}
+use Rattle.builder.proofs.Sewn.{sewn-next}
+use borrow.Author.Needs.{needs}
+use Rattle.builder.proofs.after_stitch.Statement.{statement}
+use Rattle.builder.proofs.after_stitch.Tie as tie
+
+after-stitches-requires : tie.Need-after-stitches-requires
+after-stitches-requires c κs = search needs
+
+returns : tie.Need-returns
+returns c =
+    let s = c .before in
+    let a = s .args in
+    rw (c .after-stitches .ensures, toZ-ofZ (s .fits .x), toZ-ofZ (s .fits .y)) (sewn-next 0 (a .b) (a .x) (a .y) (a .x) (a .y))
+
+pub after-stitch-spec : {M : Type 1} → statement M
+after-stitch-spec = tie.close (tie.spec after-stitches-requires returns)

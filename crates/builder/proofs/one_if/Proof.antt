@@ -1,0 +1,15 @@
+-- 0 of 0, else 1.
+use mathlib.Core.Path.{sym}
+use Rattle.builder.proofs.Parts.{in-run}
+use borrow.Author.Needs.{needs}
+use Rattle.builder.proofs.one_if.Statement.{statement}
+use Rattle.builder.proofs.one_if.Tie as tie
+
+returns : tie.Need-returns
+returns c = search needs
+
+returns-2 : tie.Need-returns-2
+returns-2 c = sym (in-run _ (c .if1 .left) .one)
+
+pub one-if-spec : {M : Type 1} → statement M
+one-if-spec = tie.close (tie.spec returns returns-2)

@@ -1,0 +1,22 @@
+-- `entry_of` meets its contract. Assumes nothing.
+use Rattle.rules.specs.Choices.{entryOf}
+use borrow.Author.Needs.{needs}
+use Rattle.choices.proofs.entry_of.Statement.{statement}
+use Rattle.choices.proofs.entry_of.Tie as tie
+
+enum-known-f : tie.Need-enum-known-f
+enum-known-f c = search needs
+
+enum-told : tie.Need-enum-told
+enum-told c = search needs
+
+returns : tie.Need-returns
+unfolding entryOf
+returns c = rw (c .before .f .given .1)
+
+returns-2 : tie.Need-returns-2
+unfolding entryOf
+returns-2 c = rw (c .enum-told .given .1)
+
+pub entry-of-spec : {M : Type 1} → statement M
+entry-of-spec = tie.close (tie.spec enum-known-f enum-told returns returns-2)

@@ -1,0 +1,27 @@
+-- The distance of a thread, or the number past all distances. Assumes nothing.
+use mathlib.Core.Path.{_∙_}
+use borrow.Author.Needs.{needs}
+use Rattle.choices.specs.Distances.{slotDistance}
+use Rattle.choices.proofs.slot_distance.Statement.{statement}
+use Rattle.choices.proofs.slot_distance.Tie as tie
+
+enum-known-s : tie.Need-enum-known-s
+enum-known-s c = search needs
+
+enum-told : tie.Need-enum-told
+enum-told c = search needs
+
+returns : tie.Need-returns
+unfolding slotDistance
+returns c = rw (c .enum-told .given .1)
+
+color-distance-requires : tie.Need-color-distance-requires
+color-distance-requires c κs = search needs
+
+returns-2 : tie.Need-returns-2
+unfolding slotDistance
+returns-2 c = c .color-distance .ensures ∙ rw (c .before .before .s .given .1)
+
+pub slot-distance-spec : {M : Type 1} → statement M
+slot-distance-spec =
+    tie.close (tie.spec enum-known-s enum-told returns color-distance-requires returns-2)

@@ -1,0 +1,31 @@
+-- The two bytes of the step.
+use borrow.Author.Needs.{needs}
+use mir.Facts.{toZ-ofZ}
+use Rattle.rules.specs.Exp.{pairOf}
+use Rattle.laws.specs.Buffers.{put-as}
+use Rattle.encode_cmd.proofs.pairs.put_pair.Statement.{statement}
+use Rattle.encode_cmd.proofs.pairs.put_pair.Tie as tie
+
+low-byte-requires : tie.Need-low-byte-requires
+low-byte-requires c κs = search needs
+
+minus-byte-requires : tie.Need-minus-byte-requires
+minus-byte-requires c κs = search needs
+
+put2-requires : tie.Need-put2-requires
+put2-requires c κs = search needs
+
+same-length : tie.Need-same-length
+same-length c = search needs
+
+returns : tie.Need-returns
+unfolding pairOf
+returns c =
+    let low = c .before .before .before .before in
+    let s = low .before .before .before in
+    let e = c .before .before .before .minus-byte .ensures in
+    put-as (c .before .before .put2 .ensures) (rw (low .low-byte .ensures, e, toZ-ofZ (s .fits .dx), toZ-ofZ (s .fits .dy)))
+
+pub put-pair-spec : {M : Type 1} → statement M
+put-pair-spec =
+    tie.close (tie.spec low-byte-requires minus-byte-requires put2-requires same-length returns)

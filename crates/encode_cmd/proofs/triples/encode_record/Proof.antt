@@ -1,0 +1,123 @@
+-- Each pair of bits is that of a greedy digit.
+use borrow.Author.Needs.{needs}
+use mir.Facts.{toZ-ofZ}
+use Rattle.rules.specs.Dst.{dstBytes}
+use Rattle.laws.specs.Ints.{ints, seen, abs-is}
+use Rattle.encode_cmd.proofs.Digits.{raised-digits, lowered-digits}
+use Rattle.encode_cmd.proofs.triples.encode_record.Statement.{statement}
+use Rattle.encode_cmd.proofs.triples.encode_record.Tie as tie
+
+raised-requires : tie.Need-raised-requires
+raised-requires c κs = search needs
+
+cast-x : tie.Need-cast-x
+cast-x c = omega (ints, seen (c .before .fits .dx), abs-is (c .before .args .dx))
+
+lowered-requires : tie.Need-lowered-requires
+lowered-requires c κs = search needs
+
+cast-y : tie.Need-cast-y
+cast-y c = omega (ints, seen (c .before .before .fits .dy), abs-is (c .before .before .args .dy))
+
+bits-requires : tie.Need-bits-requires
+bits-requires c κs = search needs
+
+bits-requires-2 : tie.Need-bits-requires-2
+bits-requires-2 c κs = search needs
+
+add-t9 : tie.Need-add-t9
+add-t9 c = search needs
+
+bits-requires-3 : tie.Need-bits-requires-3
+bits-requires-3 c κs = search needs
+
+add-t11 : tie.Need-add-t11
+add-t11 c = search needs
+
+bits-requires-4 : tie.Need-bits-requires-4
+bits-requires-4 c κs = search needs
+
+add-t13 : tie.Need-add-t13
+add-t13 c = search needs
+
+bits-requires-5 : tie.Need-bits-requires-5
+bits-requires-5 c κs = search needs
+
+bits-requires-6 : tie.Need-bits-requires-6
+bits-requires-6 c κs = search needs
+
+add-t16 : tie.Need-add-t16
+add-t16 c = search needs
+
+bits-requires-7 : tie.Need-bits-requires-7
+bits-requires-7 c κs = search needs
+
+add-t18 : tie.Need-add-t18
+add-t18 c = search needs
+
+bits-requires-8 : tie.Need-bits-requires-8
+bits-requires-8 c κs = search needs
+
+add-t20 : tie.Need-add-t20
+add-t20 c = search needs
+
+bits-requires-9 : tie.Need-bits-requires-9
+bits-requires-9 c κs = search needs
+
+add-t22 : tie.Need-add-t22
+add-t22 c = search needs
+
+bits-requires-10 : tie.Need-bits-requires-10
+bits-requires-10 c κs = search needs
+
+add-t24 : tie.Need-add-t24
+add-t24 c = search needs
+
+returns : tie.Need-returns
+unfolding dstBytes
+returns c =
+    let c9 = c .before in
+    let c8 = c9 .before in
+    let c7 = c8 .before in
+    let c6 = c7 .before in
+    let c5 = c6 .before in
+    let c4 = c5 .before in
+    let c3 = c4 .before in
+    let c2 = c3 .before in
+    let c1 = c2 .before in
+    let low = c1 .before in
+    let up = low .before in
+    let s = up .before in
+    let x = raised-digits (s .args .dx) (up .raised .result) (s .pre .1 .0) (rw (toZ-ofZ (s .fits .dx)) at (up .raised .ensures)) in
+    let y = lowered-digits (s .args .dy) (low .lowered .result) (s .pre .1 .1) (rw (toZ-ofZ (s .fits .dy)) at (low .lowered .ensures)) in
+    rw (x .d81, x .d27, x .d9, x .d3, x .d1, y .d81, y .d27, y .d9, y .d3, y .d1)
+    (rw (c1 .bits .ensures .0, c2 .bits2 .ensures .0, c3 .bits3 .ensures .0, c4 .bits4 .ensures .0, c5 .bits5 .ensures .0)
+    (rw (c6 .bits6 .ensures .0, c7 .bits7 .ensures .0, c8 .bits8 .ensures .0, c9 .bits9 .ensures .0, c .bits10 .ensures .0)))
+
+pub encode-record-spec : {M : Type 1} → statement M
+encode-record-spec =
+    tie.close
+    (tie.spec
+    raised-requires
+    cast-x
+    lowered-requires
+    cast-y
+    bits-requires
+    bits-requires-2
+    add-t9
+    bits-requires-3
+    add-t11
+    bits-requires-4
+    add-t13
+    bits-requires-5
+    bits-requires-6
+    add-t16
+    bits-requires-7
+    add-t18
+    bits-requires-8
+    add-t20
+    bits-requires-9
+    add-t22
+    bits-requires-10
+    add-t24
+    returns)

@@ -1,0 +1,79 @@
+-- The three bytes of the record.
+use borrow.Author.Needs.{needs}
+use native.Mathlib.Omega.{arith}
+use mathlib.Core.Path.{_≡_}
+use Prim.Native.Nat.{_+_, _*_, _<_}
+use lib.ListN.{getD}
+use mir.Facts.{toZ-ofZ}
+use lib.IntN.{negℤ}
+use Rattle.rules.specs.Vocabulary.{fromLittle}
+use Rattle.rules.specs.Dst.{dstBytes}
+use Rattle.encode_cmd.proofs.Parts.{packed-most, in-one}
+use Rattle.encode_cmd.proofs.triples.packed.Statement.{statement}
+use Rattle.encode_cmd.proofs.triples.packed.Tie as tie
+
+-- what the three bytes come to
+sum : (c : tie.After-encode-record)
+    → (let r = c .encode-record .result in
+    let a = c .before .args in
+    getD r 0 0 + 256 * getD r 1 0 + 65536 * getD r 2 0 ≡ fromLittle (dstBytes 0 (a .dx) (negℤ (a .dy))))
+sum c =
+    let s = c .before in
+    let e = rw (toZ-ofZ (s .fits .dx), toZ-ofZ (s .fits .dy)) at (c .encode-record .ensures) in
+    in-one 0 (s .args .dx) (negℤ (s .args .dy)) e
+
+few : (c : tie.After-encode-record) → (let a = c .before .args in fromLittle (dstBytes 0 (a .dx) (negℤ (a .dy))) < 16777216)
+few c = packed-most 0 (c .before .args .dx) (negℤ (c .before .args .dy)) (omega arith)
+
+encode-record-requires : tie.Need-encode-record-requires
+encode-record-requires c κs = search needs
+
+array-read-result : tie.Need-array-read-result
+array-read-result c = search needs
+
+cast-result : tie.Need-cast-result
+cast-result c = search needs
+
+array-read-result-2 : tie.Need-array-read-result-2
+array-read-result-2 c = search needs
+
+cast-result-2 : tie.Need-cast-result-2
+cast-result-2 c = search needs
+
+mul-result : tie.Need-mul-result
+mul-result c = omega (arith, sum c, few c)
+
+add-result : tie.Need-add-result
+add-result c = omega (arith, sum c, few c)
+
+array-read-result-3 : tie.Need-array-read-result-3
+array-read-result-3 c = search needs
+
+cast-result-3 : tie.Need-cast-result-3
+cast-result-3 c = search needs
+
+mul-result-2 : tie.Need-mul-result-2
+mul-result-2 c = omega (arith, sum c, few c)
+
+add-result-2 : tie.Need-add-result-2
+add-result-2 c = omega (arith, sum c, few c)
+
+returns : tie.Need-returns
+returns c = sum c
+
+pub packed-spec : {M : Type 1} → statement M
+packed-spec =
+    tie.close
+    (tie.spec
+    encode-record-requires
+    array-read-result
+    cast-result
+    array-read-result-2
+    cast-result-2
+    mul-result
+    add-result
+    array-read-result-3
+    cast-result-3
+    mul-result-2
+    add-result-2
+    returns)

@@ -1,0 +1,126 @@
+-- The steps, the two tests of `between` and the kind.
+use mathlib.Core.Path.{sym, _∙_}
+use mathlib.Core.Bool.{_&&_}
+use native.Mathlib.Omega.{arith}
+use denote.Ref.{now}
+use mir.Syntax.{w32}
+use Rattle.laws.specs.Tests.{and-left, and-right}
+use Rattle.laws.specs.Ints.{ret}
+use Rattle.laws.specs.Listing.{length-commands}
+use Rattle.pec.proofs.Runs.{read-step, near-step}
+use borrow.Author.Tests.{eqb-true}
+use borrow.Author.Needs.{needs}
+use Rattle.pec.proofs.is_short_at.Statement.{statement}
+use Rattle.pec.proofs.is_short_at.Tie as tie
+
+sub-step : tie.Need-sub-step
+sub-step c = search needs
+
+mul-step : tie.Need-mul-step
+mul-step c =
+    let a = c .before .args in
+    omega (arith, length-commands (now (a .xs)) (now (a .ys)) (now (a .kinds)))
+
+shared-slice-copy-out-step : tie.Need-shared-slice-copy-out-step
+shared-slice-copy-out-step c =
+    let a = c .before .args in
+    omega (arith, length-commands (now (a .xs)) (now (a .ys)) (now (a .kinds)))
+
+mul-step-2 : tie.Need-mul-step-2
+mul-step-2 c =
+    let a = c .before .before .args in
+    omega (arith, length-commands (now (a .xs)) (now (a .ys)) (now (a .kinds)))
+
+shared-slice-copy-out-step-2 : tie.Need-shared-slice-copy-out-step-2
+shared-slice-copy-out-step-2 c =
+    let a = c .before .before .args in
+    omega (arith, length-commands (now (a .xs)) (now (a .ys)) (now (a .kinds)))
+
+step-requires : tie.Need-step-requires
+step-requires c κs =
+    let start = c .before .before .before in
+    let a = start .args in
+    let near = near-step (now (a .xs)) (now (a .ys)) (now (a .kinds)) (start .pre .1) (a .i) (start .pre .0 .0) (start .pre .0 .1) in
+    rw (read-step (now (a .xs)) (a .i) (c .before .step-arg .given) (c .step-arg2 .given)) (near .x)
+
+sub-step-2 : tie.Need-sub-step-2
+sub-step-2 c = search needs
+
+mul-step-3 : tie.Need-mul-step-3
+mul-step-3 c =
+    let a = c .before .before .before .before .args in
+    omega (arith, length-commands (now (a .xs)) (now (a .ys)) (now (a .kinds)))
+
+shared-slice-copy-out-step-3 : tie.Need-shared-slice-copy-out-step-3
+shared-slice-copy-out-step-3 c =
+    let a = c .before .before .before .before .args in
+    omega (arith, length-commands (now (a .xs)) (now (a .ys)) (now (a .kinds)))
+
+mul-step-4 : tie.Need-mul-step-4
+mul-step-4 c =
+    let a = c .before .before .before .before .before .args in
+    omega (arith, length-commands (now (a .xs)) (now (a .ys)) (now (a .kinds)))
+
+shared-slice-copy-out-step-4 : tie.Need-shared-slice-copy-out-step-4
+shared-slice-copy-out-step-4 c =
+    let a = c .before .before .before .before .before .args in
+    omega (arith, length-commands (now (a .xs)) (now (a .ys)) (now (a .kinds)))
+
+step-requires-2 : tie.Need-step-requires-2
+step-requires-2 c κs =
+    let start = c .before .before .before .before .before .before in
+    let a = start .args in
+    let near = near-step (now (a .xs)) (now (a .ys)) (now (a .kinds)) (start .pre .1) (a .i) (start .pre .0 .0) (start .pre .0 .1) in
+    rw (read-step (now (a .ys)) (a .i) (c .before .step-arg3 .given) (c .step-arg4 .given)) (near .y)
+
+is-short-requires : tie.Need-is-short-requires
+is-short-requires c κs = search needs
+
+is-short-requires-2 : tie.Need-is-short-requires-2
+is-short-requires-2 c κs = search needs
+
+shared-slice-read-result : tie.Need-shared-slice-read-result
+shared-slice-read-result c =
+    let a = c .before .before .before .before .before .before .before .before .before .before .args in
+    omega (arith, length-commands (now (a .xs)) (now (a .ys)) (now (a .kinds)))
+
+returns : tie.Need-returns
+returns c =
+    let first = c .before .before in
+    let up = first .before in
+    let y-to = up .before in
+    let y-from = y-to .before in
+    let across = y-from .before in
+    let x-to = across .before in
+    let x-from = x-to .before in
+    let a = x-from .before .before .args in
+    let dx = ret w32 (across .step .result) (across .step .ok) ∙ across .step .ensures ∙ read-step (now (a .xs)) (a .i) (x-from .step-arg .given) (x-to .step-arg2 .given) in
+    let dy = ret w32 (up .step2 .result) (up .step2 .ok) ∙ up .step2 .ensures ∙ read-step (now (a .ys)) (a .i) (y-from .step-arg3 .given) (y-to .step-arg4 .given) in
+    let px = first .is-short .result in
+    let py = c .before .is-short2 .result in
+    λ e. record {
+      stitch = eqb-true _ _ (and-right (px && py) _ e);
+      x = sym (rw dx at (first .is-short .ensures)) ∙ and-left px py (and-left (px && py) _ e);
+      y = sym (rw dy at (c .before .is-short2 .ensures)) ∙ and-right px py (and-left (px && py) _ e);
+    }
+
+pub is-short-at-spec : {M : Type 1} → statement M
+is-short-at-spec =
+    tie.close
+    (tie.spec
+    sub-step
+    mul-step
+    shared-slice-copy-out-step
+    mul-step-2
+    shared-slice-copy-out-step-2
+    step-requires
+    sub-step-2
+    mul-step-3
+    shared-slice-copy-out-step-3
+    mul-step-4
+    shared-slice-copy-out-step-4
+    step-requires-2
+    is-short-requires
+    is-short-requires-2
+    shared-slice-read-result
+    returns)

@@ -1,0 +1,72 @@
+-- The run goes to k.
+use mathlib.Core.Path.{_≡_}
+use Prim.Native.Nat.{_+_, _-_, _≤_}
+use native.Mathlib.Omega.{arith}
+use denote.Ref.{now}
+use lib.ListN.{length}
+use Rattle.rules.specs.Lists.{commands}
+use Rattle.laws.specs.Listing.{length-commands}
+use Rattle.pec.specs.Shorts.{Shorts}
+use Rattle.pec_cmd.proofs.Values.{un-not-not}
+use Rattle.pec.proofs.Runs.{shorts-none, shorts-join}
+use Rattle.pec.proofs.short_till.Statement.{statement}
+use Rattle.pec.proofs.short_till.Tie as tie
+
+abbrev Inv-loop : tie.InvT-loop
+Inv-loop xs ys kinds i n k₀ k =
+    (n ≡ length (commands xs ys kinds)) × ((i ≤ k) × ((k ≤ n) × Shorts xs ys kinds i k))
+
+abbrev μ-loop : tie.MeasureT-loop
+μ-loop xs ys kinds i n k₀ k = n - k
+
+list-len-requires : tie.Need-list-len-requires Inv-loop μ-loop
+list-len-requires c κs = tt
+
+loop-holds : tie.Need-loop-holds Inv-loop μ-loop
+loop-holds c = (c .list-len .ensures, (omega arith, (omega arith, shorts-none _ _ _ _)))
+
+add-loop : tie.Need-add-loop Inv-loop μ-loop
+add-loop c =
+    let a = c .before .before .before .args in
+    omega (arith, length-commands (now (a .xs)) (now (a .ys)) (now (a .kinds)))
+
+are-short-requires : tie.Need-are-short-requires Inv-loop μ-loop
+are-short-requires c κs = ((omega arith, omega arith), c .before .before .before .before .pre .1)
+
+returns : tie.Need-returns Inv-loop μ-loop
+returns c = let inv = c .before .before .before .loop .inv in (inv .1 .0, (omega arith, inv .1 .1 .1))
+
+add-k : tie.Need-add-k Inv-loop μ-loop
+add-k c =
+    let a = c .before .before .before .before .before .before .args in
+    omega (arith, length-commands (now (a .xs)) (now (a .ys)) (now (a .kinds)))
+
+loop-less : tie.Need-loop-less Inv-loop μ-loop
+loop-less c = omega arith
+
+loop-again : tie.Need-loop-again Inv-loop μ-loop
+loop-again c =
+    let a = c .before .before .before .before .before .before .args in
+    let loop = c .before .before .before .loop in
+    let more = c .before .are-short .ensures (un-not-not _ (c .if1 .left)) in
+    let run = shorts-join (now (a .xs)) (now (a .ys)) (now (a .kinds)) (a .i) (loop .k) (loop .k + 8) (loop .inv .1 .1 .1) more in
+    (loop .inv .0, (omega arith, (omega arith, run)))
+
+returns-2 : tie.Need-returns-2 Inv-loop μ-loop
+returns-2 c = let inv = c .before .loop .inv in (inv .1 .0, (omega arith, inv .1 .1 .1))
+
+pub short-till-spec : {M : Type 1} → statement M
+short-till-spec =
+    tie.close
+    (tie.spec
+    Inv-loop
+    μ-loop
+    list-len-requires
+    loop-holds
+    add-loop
+    are-short-requires
+    returns
+    add-k
+    loop-less
+    loop-again
+    returns-2)

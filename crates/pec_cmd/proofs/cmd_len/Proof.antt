@@ -1,0 +1,101 @@
+-- Each operation has its own length.
+use mathlib.Core.Path.{refl}
+use native.Mathlib.Omega.{arith}
+use mir.Facts.{toZ-ofZ}
+use Rattle.rules.specs.Pec.{wide, pecCmd}
+use Rattle.pec_cmd.specs.States.{stateOf}
+use Rattle.pec_cmd.proofs.Values.{stitch-long, change-long}
+use borrow.Author.Needs.{needs}
+use Rattle.pec_cmd.proofs.cmd_len.Statement.{statement}
+use Rattle.pec_cmd.proofs.cmd_len.Tie as tie
+
+enum-told : tie.Need-enum-told
+enum-told c = search needs
+
+pauses-requires : tie.Need-pauses-requires
+pauses-requires c κs = search needs
+
+pause-len-requires : tie.Need-pause-len-requires
+pause-len-requires c κs = search needs
+
+value-len-requires : tie.Need-value-len-requires
+value-len-requires c κs = search needs
+
+add-result : tie.Need-add-result
+add-result c = search needs
+
+value-len-requires-2 : tie.Need-value-len-requires-2
+value-len-requires-2 c κs = search needs
+
+add-result-2 : tie.Need-add-result-2
+add-result-2 c = search needs
+
+enum-told-2 : tie.Need-enum-told-2
+enum-told-2 c = search needs
+
+enum-told-3 : tie.Need-enum-told-3
+enum-told-3 c = search needs
+
+enum-told-4 : tie.Need-enum-told-4
+enum-told-4 c = search needs
+
+pause-len-requires-2 : tie.Need-pause-len-requires-2
+pause-len-requires-2 c κs = search needs
+
+add-result-3 : tie.Need-add-result-3
+add-result-3 c = search needs
+
+enum-told-5 : tie.Need-enum-told-5
+enum-told-5 c = search needs
+
+returns : tie.Need-returns
+returns c =
+    let v = c .before in
+    let pz = v .before in
+    let s = pz .before .before .before .before in
+    let long = stitch-long (stateOf (s .args .s)) (s .args .dx) (s .args .dy) in
+    let p = rw (pz .before .pauses .ensures, toZ-ofZ (s .fits .dx), toZ-ofZ (s .fits .dy)) at (pz .pause-len .ensures .0) in
+    let q = rw (toZ-ofZ (s .fits .dx)) at (v .value-len .ensures .0) in
+    let r = rw (toZ-ofZ (s .fits .dy)) at (c .value-len2 .ensures .0) in
+    rw (pz .before .before .enum-told .given .1) (omega (arith, long, p, q, r), omega (arith, pz .pause-len .ensures .1, v .value-len .ensures .1, c .value-len2 .ensures .1))
+
+returns-2 : tie.Need-returns-2
+unfolding pecCmd wide
+returns-2 c = rw (c .enum-told2 .given .1) (refl, omega arith)
+
+returns-3 : tie.Need-returns-3
+unfolding pecCmd
+returns-3 c = rw (c .enum-told3 .given .1) (refl, omega arith)
+
+returns-4 : tie.Need-returns-4
+returns-4 c =
+    let s = c .before .before .before in
+    let long = change-long (stateOf (s .args .s)) (s .args .dx) (s .args .dy) in
+    rw (c .before .enum-told4 .given .1) (omega (arith, long, c .pause-len2 .ensures .0), omega (arith, c .pause-len2 .ensures .1))
+
+returns-5 : tie.Need-returns-5
+unfolding pecCmd
+returns-5 c = rw (c .enum-told5 .given .1) (refl, omega arith)
+
+pub cmd-len-spec : {M : Type 1} → statement M
+cmd-len-spec =
+    tie.close
+    (tie.spec
+    enum-told
+    pauses-requires
+    pause-len-requires
+    value-len-requires
+    add-result
+    value-len-requires-2
+    add-result-2
+    enum-told-2
+    enum-told-3
+    enum-told-4
+    pause-len-requires-2
+    add-result-3
+    enum-told-5
+    returns
+    returns-2
+    returns-3
+    returns-4
+    returns-5)

@@ -1,0 +1,23 @@
+-- The remainder of the number raised by 128.
+use mathlib.Core.Path.{sym}
+use native.Mathlib.Omega.{arith}
+use Rattle.laws.specs.Ints.{abs-is}
+use Rattle.pec_cmd.proofs.Bytes.{seven, over-fits, over-is}
+use borrow.Author.Needs.{needs}
+use Rattle.pec_cmd.proofs.low7.Statement.{statement}
+use Rattle.pec_cmd.proofs.low7.Tie as tie
+
+add-result : tie.Need-add-result
+add-result c = over-fits 128 (c .fits .z) (omega arith) (omega arith)
+
+cast-result : tie.Need-cast-result
+cast-result c = rw (over-is 128 (c .fits .z) (omega arith) (omega arith)) (tt, record { fits = omega (arith, abs-is (c .args .z)) })
+
+cast-result-2 : tie.Need-cast-result-2
+cast-result-2 c = search needs
+
+returns : tie.Need-returns
+returns c = rw (over-is 128 (c .fits .z) (omega arith) (omega arith)) (sym (seven (c .args .z) (c .pre)))
+
+pub low7-spec : {M : Type 1} → statement M
+low7-spec = tie.close (tie.spec add-result cast-result cast-result-2 returns)

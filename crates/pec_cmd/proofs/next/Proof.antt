@@ -1,0 +1,50 @@
+-- Each operation has its own next state; a trim and the end keep what was.
+use mathlib.Core.Path.{_≡_, refl}
+use mathlib.Core.Bool.{false}
+use mathlib.Core.List.{[], _∷_}
+use types.Run.{OneOf, miss}
+use denote.Enum.Declared.{tagOf}
+use Rattle.rules.proofs.Op.{the-type}
+use Rattle.rules.specs.declared.Op.{Op}
+use Rattle.rules.specs.declared.Op.the-variants.{Stitch, Jump, Trim, ColorChange, End}
+use Rattle.rules.specs.Pec.{PecState, pecNext}
+use borrow.Author.Needs.{needs}
+use Rattle.pec_cmd.proofs.next.Statement.{statement}
+use Rattle.pec_cmd.proofs.next.Tie as tie
+
+-- a trim or the end
+kept : (s : PecState) (op : Op) → OneOf (2 ∷ 4 ∷ []) (tagOf the-type op) → record { jumped = s .jumped; two = s .two; opening = false } ≡ pecNext s op
+unfolding pecNext
+kept s Stitch k = absurd (miss (2 ∷ 4 ∷ []) 0 tt k)
+kept s Jump k = absurd (miss (2 ∷ 4 ∷ []) 1 tt k)
+kept s Trim k = refl
+kept s ColorChange k = absurd (miss (2 ∷ 4 ∷ []) 3 tt k)
+kept s End k = refl
+
+enum-told : tie.Need-enum-told
+enum-told c = search needs
+
+enum-told-2 : tie.Need-enum-told-2
+enum-told-2 c = search needs
+
+enum-told-3 : tie.Need-enum-told-3
+enum-told-3 c = search needs
+
+returns : tie.Need-returns
+unfolding pecNext
+returns c = rw (c .enum-told .given .1)
+
+returns-2 : tie.Need-returns-2
+unfolding pecNext
+returns-2 c = rw (c .enum-told2 .given .1)
+
+returns-3 : tie.Need-returns-3
+unfolding pecNext
+returns-3 c = rw (c .before .enum-told3 .given .1)
+
+returns-4 : tie.Need-returns-4
+returns-4 c = kept _ (c .before .args .op) (c .match .keys4)
+
+pub next-spec : {M : Type 1} → statement M
+next-spec =
+    tie.close (tie.spec enum-told enum-told-2 enum-told-3 returns returns-2 returns-3 returns-4)

@@ -1,0 +1,63 @@
+-- A short step is its low seven bits, another two bytes.
+use mathlib.Core.Path.{sym, _∙_}
+use native.Mathlib.Omega.{arith}
+use mir.Facts.{toZ-ofZ}
+use Rattle.rules.specs.Pec.{wide}
+use Rattle.laws.specs.Buffers.{put-as}
+use Rattle.pec_cmd.proofs.Values.{one-byte, two-bytes, short-abs}
+use borrow.Author.Needs.{needs}
+use Rattle.pec_cmd.proofs.pec_value.Statement.{statement}
+use Rattle.pec_cmd.proofs.pec_value.Tie as tie
+
+is-short-requires : tie.Need-is-short-requires
+is-short-requires c κs = search needs
+
+low7-requires : tie.Need-low7-requires
+low7-requires c κs =
+    let s = c .before .before .before .before in
+    let e = rw (toZ-ofZ (s .fits .z)) at (sym (c .before .before .is-short .ensures) ∙ c .before .if1 .taken) in
+    rw (toZ-ofZ (s .fits .z)) (short-abs (s .args .z) e)
+
+put-requires : tie.Need-put-requires
+put-requires c κs =
+    let s = c .before .before .before .before .before in
+    let e = rw (toZ-ofZ (s .fits .z)) at (sym (c .before .before .before .is-short .ensures) ∙ c .before .before .if1 .taken) in
+    rw (one-byte (s .args .z) e) at (s .pre .1)
+
+same-length : tie.Need-same-length
+same-length c = search needs
+
+returns : tie.Need-returns
+returns c =
+    let s = c .before .before .before .before .before .before .before .before in
+    let e = rw (toZ-ofZ (s .fits .z)) at (sym (c .before .before .before .before .before .before .is-short .ensures) ∙ c .before .before .before .before .before .if1 .taken) in
+    put-as (c .before .before .put .ensures) (rw (c .before .before .before .low7 .ensures, toZ-ofZ (s .fits .z), one-byte (s .args .z) e))
+
+put-wide-requires : tie.Need-put-wide-requires
+unfolding wide
+put-wide-requires c κs =
+    let s = c .before .before .before .before in
+    let e = rw (toZ-ofZ (s .fits .z)) at (sym (c .before .before .is-short .ensures) ∙ c .before .if1 .left) in
+    rw (toZ-ofZ (s .fits .z)) ((omega arith, s .pre .0), rw (two-bytes (s .args .z) e) at (s .pre .1))
+
+same-length-2 : tie.Need-same-length-2
+same-length-2 c = search needs
+
+returns-2 : tie.Need-returns-2
+returns-2 c =
+    let s = c .before .before .before .before .before .before .before in
+    let e = rw (toZ-ofZ (s .fits .z)) at (sym (c .before .before .before .before .before .is-short .ensures) ∙ c .before .before .before .before .if1 .left) in
+    put-as (c .before .before .put-wide .ensures) (rw (toZ-ofZ (s .fits .z), two-bytes (s .args .z) e))
+
+pub pec-value-spec : {M : Type 1} → statement M
+pec-value-spec =
+    tie.close
+    (tie.spec
+    is-short-requires
+    low7-requires
+    put-requires
+    same-length
+    returns
+    put-wide-requires
+    same-length-2
+    returns-2)

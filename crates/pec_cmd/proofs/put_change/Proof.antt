@@ -1,0 +1,39 @@
+-- The pause, then the three bytes.
+use lib.IntN.{pos}
+use native.Mathlib.Omega.{arith}
+use Rattle.rules.specs.Pec.{pecCmd}
+use Rattle.laws.specs.Buffers.{put-put, put-length, put-as}
+use Rattle.pec_cmd.specs.States.{stateOf}
+use Rattle.pec_cmd.proofs.Values.{change-long}
+use borrow.Author.Needs.{needs}
+use Rattle.pec_cmd.proofs.put_change.Statement.{statement}
+use Rattle.pec_cmd.proofs.put_change.Tie as tie
+
+put-pause-requires : tie.Need-put-pause-requires
+put-pause-requires c κs =
+    let s = c .before .before in
+    let long = change-long (stateOf (s .args .s)) (pos 0) (pos 0) in
+    omega (arith, long, s .pre)
+
+color-byte-requires : tie.Need-color-byte-requires
+color-byte-requires c κs = search needs
+
+put3-requires : tie.Need-put3-requires
+put3-requires c κs =
+    let s = c .before .before .before .before .before .before .before in
+    let long = change-long (stateOf (s .args .s)) (pos 0) (pos 0) in
+    let p = c .before .before .before .before .put-pause .ensures in
+    omega (arith, long, s .pre, p .ends, put-length p)
+
+same-length : tie.Need-same-length
+same-length c = search needs
+
+returns : tie.Need-returns
+unfolding pecCmd
+returns c =
+    let p = c .before .before .before .before .before .before .before .put-pause .ensures in
+    put-as (put-put p (c .before .before .put3 .ensures)) (rw (c .before .before .before .color-byte .ensures))
+
+pub put-change-spec : {M : Type 1} → statement M
+put-change-spec =
+    tie.close (tie.spec put-pause-requires color-byte-requires put3-requires same-length returns)

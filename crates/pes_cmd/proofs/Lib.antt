@@ -1,0 +1,3 @@
+-- What the proofs cite, here and in the crate above.
+pub mod Distances
+pub mod Lengths

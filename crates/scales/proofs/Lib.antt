@@ -1,0 +1,3 @@
+-- What the proofs cite, here and in the crates above.
+pub mod Floors
+pub mod Joined

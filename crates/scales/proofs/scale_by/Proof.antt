@@ -1,0 +1,38 @@
+-- What the calls ensure, joined.
+use mir.Facts.{toZ-ofZ}
+use Rattle.scales.proofs.Joined.{scale-joined}
+use borrow.Author.Needs.{needs}
+use Rattle.scales.proofs.scale_by.Statement.{statement}
+use Rattle.scales.proofs.scale_by.Tie as tie
+
+span-of-requires : tie.Need-span-of-requires
+span-of-requires c κs = search needs
+
+at-least-one-requires : tie.Need-at-least-one-requires
+at-least-one-requires c κs = search needs
+
+span-of-requires-2 : tie.Need-span-of-requires-2
+span-of-requires-2 c κs = search needs
+
+at-least-one-requires-2 : tie.Need-at-least-one-requires-2
+at-least-one-requires-2 c κs = search needs
+
+lesser-requires : tie.Need-lesser-requires
+lesser-requires c κs = search needs
+
+returns : tie.Need-returns
+returns c =
+    let f = c .before .before .before .before .before .fits in
+    scale-joined (toZ-ofZ (f .x0)) (toZ-ofZ (f .y0)) (toZ-ofZ (f .x1)) (toZ-ofZ (f .y1)) (c .before .before .before .before .before .args .buffer)
+    (c .before .before .before .before .span-of .ensures) (c .before .before .before .at-least-one .ensures) (c .before .before .span-of2 .ensures) (c .before .at-least-one2 .ensures) (c .lesser .ensures)
+
+pub scale-by-spec : {M : Type 1} → statement M
+scale-by-spec =
+    tie.close
+    (tie.spec
+    span-of-requires
+    at-least-one-requires
+    span-of-requires-2
+    at-least-one-requires-2
+    lesser-requires
+    returns)

@@ -1,0 +1,74 @@
+-- One place alone, or as many as lie between two of one pixel.
+use Prim.Native.Nat.{_-_}
+use mathlib.Core.Path.{sym, ap, _∙_}
+use lib.IntN.{ℤ, pos, _+ℤ_}
+use mir.Facts.{toZ-ofZ}
+use mir.Syntax.{w32}
+use Rattle.laws.specs.Ints.{ret}
+use native.Mathlib.Omega.{arith}
+use Rattle.tables.proofs.Places.{un-not, pixel-read, alone, together}
+use borrow.Author.Needs.{needs}
+use Rattle.tables.proofs.stretch.Statement.{statement}
+use Rattle.tables.proofs.stretch.Tie as tie
+
+returns : tie.Need-returns
+returns c = (omega arith, (omega arith, alone (c .before .args .scale) (c .before .args .t) (c .before .args .z) (c .before .pre .1)))
+
+scaled-requires : tie.Need-scaled-requires
+scaled-requires c κs = search needs
+
+reach-requires : tie.Need-reach-requires
+reach-requires c κs = search needs
+
+lesser-requires : tie.Need-lesser-requires
+lesser-requires c κs = search needs
+
+returns-2 : tie.Need-returns-2
+returns-2 c = (omega arith, (omega arith, alone (c .before .before .before .before .before .args .scale) (c .before .before .before .before .before .args .t) (c .before .before .before .before .before .args .z) (c .before .before .before .before .before .pre .1)))
+
+is-above-zero-requires : tie.Need-is-above-zero-requires
+is-above-zero-requires c κs = search needs
+
+returns-3 : tie.Need-returns-3
+returns-3 c = (omega arith, (omega arith, alone (c .before .before .before .before .before .before .before .args .scale) (c .before .before .before .before .before .before .before .args .t) (c .before .before .before .before .before .before .before .args .z) (c .before .before .before .before .before .before .before .pre .1)))
+
+sub-place : tie.Need-sub-place
+sub-place c = search needs
+
+place-requires : tie.Need-place-requires
+place-requires c κs = search needs
+
+scaled-requires-2 : tie.Need-scaled-requires-2
+scaled-requires-2 c κs = search needs
+
+floor-requires : tie.Need-floor-requires
+floor-requires c κs = search needs
+
+returns-4 : tie.Need-returns-4
+returns-4 c =
+    let a = c .before .before .before .before .before .before .before .before .before .before .before .args in
+    let e = c .if4 .taken in
+    let there = ret w32 (c .before .before .before .place .result) (c .before .before .before .place .ok) ∙ c .before .before .before .place .ensures ∙ ap (λ (u : ℤ). u +ℤ pos (c .before .before .before .before .before .before .before .lesser .result - 1)) (toZ-ofZ (c .before .before .before .before .before .before .before .before .before .before .before .fits .z)) in
+    let last = sym (pixel-read (a .scale) (a .t) (c .before .floor .ensures) (c .before .before .scaled2 .ensures) there) ∙ e in
+    (omega arith, (c .before .before .before .before .before .before .before .lesser .ensures .1, together (a .scale) (a .t) (a .z) (c .before .before .before .before .before .before .before .before .before .before .before .pre .1) (c .before .before .before .before .before .before .before .lesser .result) (sym (c .before .before .before .before .before .is-above-zero .ensures) ∙ un-not (c .before .before .before .before .before .is-above-zero .result) (c .before .before .before .before .if3 .left)) (omega arith) last))
+
+returns-5 : tie.Need-returns-5
+returns-5 c = (omega arith, (omega arith, alone (c .before .before .before .before .before .before .before .before .before .before .before .args .scale) (c .before .before .before .before .before .before .before .before .before .before .before .args .t) (c .before .before .before .before .before .before .before .before .before .before .before .args .z) (c .before .before .before .before .before .before .before .before .before .before .before .pre .1)))
+
+pub stretch-spec : {M : Type 1} → statement M
+stretch-spec =
+    tie.close
+    (tie.spec
+    returns
+    scaled-requires
+    reach-requires
+    lesser-requires
+    returns-2
+    is-above-zero-requires
+    returns-3
+    sub-place
+    place-requires
+    scaled-requires-2
+    floor-requires
+    returns-4
+    returns-5)

@@ -1,0 +1,39 @@
+-- Each way out by its tests.
+use native.Mathlib.Omega.{arith}
+use mir.Facts.{toZ-ofZ}
+use Rattle.laws.specs.Tests.{false-true, and-left, and-right}
+use borrow.Author.Needs.{needs}
+use Rattle.thumbnails.proofs.has_tables.Statement.{statement}
+use Rattle.thumbnails.proofs.has_tables.Tie as tie
+
+returns : tie.Need-returns
+returns c e = false-true e
+
+returns-2 : tie.Need-returns-2
+returns-2 c e = false-true e
+
+returns-3 : tie.Need-returns-3
+returns-3 c e = false-true e
+
+add-if4 : tie.Need-add-if4
+add-if4 c = search needs
+
+returns-4 : tie.Need-returns-4
+returns-4 c e = false-true e
+
+is-near-requires : tie.Need-is-near-requires
+is-near-requires c κs = search needs
+
+is-near-requires-2 : tie.Need-is-near-requires-2
+is-near-requires-2 c κs = search needs
+
+returns-5 : tie.Need-returns-5
+returns-5 c e =
+    let a = c .before .is-near .result in
+    let b = c .is-near2 .result in
+    ((rw (toZ-ofZ (c .before .before .before .before .before .before .fits .left)) at (c .before .is-near .ensures (and-left a b e)), omega arith), (rw (toZ-ofZ (c .before .before .before .before .before .before .fits .top)) at (c .is-near2 .ensures (and-right a b e)), omega arith))
+
+pub has-tables-spec : {M : Type 1} → statement M
+has-tables-spec =
+    tie.close
+    (tie.spec returns returns-2 returns-3 add-if4 returns-4 is-near-requires is-near-requires-2 returns-5)
