@@ -16,12 +16,15 @@ use Rattle.rules.specs.Lists.{opOf, commands, endsOnce, placed, samePlac
 use Rattle.rules.specs.Pec.{longAxis, axisOf, afterAxis, bothAxes, starts, pecChange, pecFirst, wide, pecValue, pecStart, pecNext, pause, pecCmd, pecStitches, distinct, give, givenTo, foundOr, uniquePalette, pecColors, pecHeader, pecBlock, pecPart, pecFile}
 use Rattle.rules.specs.Pes.{halves, matrixField, threadCode, runLength, runX, runY, pesStart, opens, pesNext, pesPoint, pesOpen, pesCmd, pesSections, sectionCount, opensSection, colorLog, pesString, shorts, pesBlocks, pesMiddle, pesFile}
 use Rattle.rules.specs.Records.{recordThen, events}
-use Rattle.rules.specs.Refusals.{badList, outside, placeOutside, changes, tooMany, moves, moved, stepsPast, stepTooLong}
-use Rattle.rules.specs.Sewing.{entry, blockAfter, sewsCmd, sews, listSewing, sewsRun, runSewing, runsSewing, cells, fileSewing}
+use Rattle.rules.specs.Refusals.{badList, outside, placeOutside, changes, tooMany, moves, moved, stepsPast, stepTooLong, verdict}
+use Rattle.rules.specs.Sewing.{Entry, entry, blockAfter, sewsCmd, sews, listSewing, sewsRun, runSewing, runsSewing, cells, fileSewing}
 use Rattle.rules.specs.Thumbnails.{atLeastOne, lesser, floorOf, within, pixel, painted, marked, drawn, atFront, colorBlocks, icons}
 use Rattle.rules.specs.Vocabulary.{between, all, any, count, keep, next, firstWhere, orElse, lastWhere, sameBytes, signed, bitsOf, little, fromLittle, joined, digitAt, right, padded, fuelled}
 use Rattle.rules.specs.declared.Cmd.{Cmd}
+use Rattle.rules.specs.declared.Extension.the-variants.{Of}
 use Rattle.rules.specs.declared.Format.the-variants.{Pes, Pec, Dst, Exp, Jef}
+use Rattle.rules.specs.declared.Refusal.the-variants.{FileTooShort}
+use Rattle.rules.specs.declared.Verdict.the-variants.{Accepted, Refused}
 
 -- DST: the list with its threads, 542 bytes
 abbrev dstList : List Cmd
@@ -73,6 +76,13 @@ pecWritten = joined
     ∷ (0x04 ∷ 0x00 ∷ 0x00 ∷ 0x00 ∷ 0x00 ∷ 0x20 ∷ 0x08 ∷ 0x00 ∷ 0x20 ∷ 0x00 ∷ 0x00 ∷ 0x10 ∷ 0xF0 ∷ 0xFF ∷ 0xFF ∷ 0xFF ∷ 0xFF ∷ 0x0F ∷ [])
     ∷ (0x00 ∷ 0x00 ∷ 0x00 ∷ 0x00 ∷ 0x00 ∷ 0x00 ∷ [])
     ∷ [])
+
+-- its sewing: the stitches 00 00 in the file, which move nothing, add no entry
+abbrev pecSewing : List Entry
+pecSewing =
+    record { block = 0; x₀ = pos 0; y₀ = pos 0; x₁ = negsuc 62; y₁ = negsuc 403 }
+    ∷ record { block = 1; x₀ = negsuc 171; y₀ = pos 335; x₁ = negsuc 187; y₁ = pos 463 }
+    ∷ []
 
 -- PES: the list with its threads, 1366 bytes
 abbrev pesList : List Cmd
@@ -168,6 +178,12 @@ pub vectors : (fileOf Dst (0x42 ∷ 0x6C ∷ 0xC3 ∷ 0xBC ∷ 0x74 ∷ 0x65 ∷
     × ((blocksOf Dst dstSample ≡ (0 ∷ 66100 ∷ 1 ∷ 2 ∷ 1989290 ∷ 1 ∷ 3 ∷ 15774750 ∷ 1 ∷ []))
     × ((placesOf Exp expSample ≡ ((pos 0) ∷ (pos 0) ∷ (pos 10) ∷ (pos 0) ∷ (pos 10) ∷ (pos 10) ∷ (pos 15) ∷ (pos 5) ∷ (pos 18) ∷ (pos 5) ∷ []))
     × ((runsOf Exp expSample ≡ (3 ∷ 2 ∷ []))
-    × ((blocksOf Exp expSample ≡ (0 ∷ 1973790 ∷ 2 ∷ [])))))))))))))
-unfolding pointsAfter startOf places runOf runs blockOf begunAfter blocks pointTotal blockTotal cuts pecChart jefChart blankIcon halfToEven gap weighed distance noNearer nearest nearestIndex nearestFirst choices pecPalette jefPalette sameColor entryOf jefNearest jefChoice jefEntries bit weigh dstX dstY under dstRecord dstFirst digit rest z27 z9 z3 z1 pair dstBytes dstCmd line signedRight recordCount dstText dstFile two control after80 pairFirst pairOf expCmd expFile fileOf wordAt partStart stitchBytes firstOf eventsOf blank trimStart beforeEnd trimEnd trimmed cutBefore linesOf begins lastLabel labelOf hexDigit hexPair hexColor sixDigits dropHashes beforeComma lineColor addColor lineColors slotAt pecColor jefCount jefColor stored defaults colorNumber orDefault colourOf placesOf runsOf blocksOf notPes tooShort startBelowZero noCount fileRefusals noRoom fileVerdict readVerdict jefCmd word pointsIn pointCount jefHoop halfUp edges orOne jefTable words jefHeader jefFile opOf commands endsOnce placed samePlace isChange isTrim stands anyFrom written lastX lastY leastStep greatestStep stepIn minZ maxZ leastFrom greatestFrom least greatest minX minY maxX maxY width height threadsOf pecName dstName longAxis axisOf afterAxis bothAxes starts pecChange pecFirst wide pecValue pecStart pecNext pause pecCmd pecStitches distinct give givenTo foundOr uniquePalette pecColors pecHeader pecBlock pecPart pecFile halves matrixField threadCode runLength runX runY pesStart opens pesNext pesPoint pesOpen pesCmd pesSections sectionCount opensSection colorLog pesString shorts pesBlocks pesMiddle pesFile recordThen events badList outside placeOutside changes tooMany moves moved stepsPast stepTooLong entry blockAfter sewsCmd sews listSewing sewsRun runSewing runsSewing cells fileSewing atLeastOne lesser floorOf within pixel painted marked drawn atFront colorBlocks icons between all any count keep next firstWhere orElse lastWhere sameBytes signed bitsOf little fromLittle joined digitAt right padded fuelled add sub mul div neg lt ofInt ofBits round toBits
-vectors = (refl, (refl, (refl, (refl, (refl, (refl, (refl, (refl, (refl, (refl, (refl, refl)))))))))))
+    × ((blocksOf Exp expSample ≡ (0 ∷ 1973790 ∷ 2 ∷ []))
+    × ((runsOf Pec pecWritten ≡ (3 ∷ 2 ∷ 3 ∷ []))
+    × ((listSewing pecList ≡ pecSewing)
+    × ((fileSewing (placesOf Pec pecWritten) (runsOf Pec pecWritten) (blocksOf Pec pecWritten) ≡ pecSewing)
+    × ((fileVerdict (Of Dst) (replicate 511 0x20) ≡ Refused FileTooShort)
+    × ((fileVerdict (Of Dst) (replicate 512 0x20) ≡ Accepted)
+    × (blocksOf Dst (replicate 512 0x20) ≡ [])))))))))))))))))
+unfolding pointsAfter startOf places runOf runs blockOf begunAfter blocks pointTotal blockTotal cuts pecChart jefChart blankIcon halfToEven gap weighed distance noNearer nearest nearestIndex nearestFirst choices pecPalette jefPalette sameColor entryOf jefNearest jefChoice jefEntries bit weigh dstX dstY under dstRecord dstFirst digit rest z27 z9 z3 z1 pair dstBytes dstCmd line signedRight recordCount dstText dstFile two control after80 pairFirst pairOf expCmd expFile fileOf wordAt partStart stitchBytes firstOf eventsOf blank trimStart beforeEnd trimEnd trimmed cutBefore linesOf begins lastLabel labelOf hexDigit hexPair hexColor sixDigits dropHashes beforeComma lineColor addColor lineColors slotAt pecColor jefCount jefColor stored defaults colorNumber orDefault colourOf placesOf runsOf blocksOf notPes tooShort startBelowZero noCount fileRefusals noRoom fileVerdict readVerdict jefCmd word pointsIn pointCount jefHoop halfUp edges orOne jefTable words jefHeader jefFile opOf commands endsOnce placed samePlace isChange isTrim stands anyFrom written lastX lastY leastStep greatestStep stepIn minZ maxZ leastFrom greatestFrom least greatest minX minY maxX maxY width height threadsOf pecName dstName longAxis axisOf afterAxis bothAxes starts pecChange pecFirst wide pecValue pecStart pecNext pause pecCmd pecStitches distinct give givenTo foundOr uniquePalette pecColors pecHeader pecBlock pecPart pecFile halves matrixField threadCode runLength runX runY pesStart opens pesNext pesPoint pesOpen pesCmd pesSections sectionCount opensSection colorLog pesString shorts pesBlocks pesMiddle pesFile recordThen events badList outside placeOutside changes tooMany moves moved stepsPast stepTooLong verdict entry blockAfter sewsCmd sews listSewing sewsRun runSewing runsSewing cells fileSewing atLeastOne lesser floorOf within pixel painted marked drawn atFront colorBlocks icons between all any count keep next firstWhere orElse lastWhere sameBytes signed bitsOf little fromLittle joined digitAt right padded fuelled add sub mul div neg lt ofInt ofBits round toBits
+vectors = (refl, (refl, (refl, (refl, (refl, (refl, (refl, (refl, (refl, (refl, (refl, (refl, (refl, (refl, (refl, (refl, (refl, refl)))))))))))))))))

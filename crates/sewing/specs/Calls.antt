@@ -1,7 +1,7 @@
 -- Demand 3 about the calls `write` and `read`: for every list accepted for a format, any name, any threads and buffers long enough, neither call
 -- refuses, and what the caller finds in the buffers sews what the list sews. Of two lists, in one format or two: equal sewings come back exactly
 -- when the lists sew the same. Assumes nothing.
-use mathlib.Core.Path.{_≡_, refl, sym, _∙_}
+use mathlib.Core.Path.{_≡_, refl, _∙_}
 use mathlib.Core.Logic.{_↔_}
 use mathlib.Core.List.{List, [], _∷_, _++_}
 use Prim.Native.Nat.{ℕ, zero, suc, _+_, _*_, _≤_}
@@ -25,7 +25,7 @@ use Rattle.rules.specs.declared.Verdict.the-variants.{Accepted}
 use Rattle.rules.specs.declared.WriteAnswer.{WriteAnswer}
 use Rattle.rules.specs.declared.WriteAnswer.the-variants.{Written}
 use Rattle.laws.specs.Verdicts.{verdict-on}
-use Rattle.sewing.specs.Theorem.{kept, read-accepted}
+use Rattle.sewing.specs.Theorem.{kept, alike, read-accepted}
 
 -- ---- what the calls promise, for every input
 
@@ -214,7 +214,4 @@ module _ (t : RoundTrip) where
 
 -- two lists, in one format or two
 pub same-back : (t u : RoundTrip) → (back t ≡ back u) ↔ (sewing t ≡ sewing u)
-same-back t u =
-    let p = sewn t .same in
-    let q = sewn u .same in
-    (λ e. sym p ∙ e ∙ q, λ e. p ∙ e ∙ sym q)
+same-back t u = alike (sewn t .same) (sewn u .same)

@@ -84,15 +84,17 @@ kept f name xs ys kinds threads e =
       sews-same = answer-sewing (colourOf f s) (eventsOf f s) ∙ events-sew f name cs threads n (accepted-good f xs ys kinds threads t);
     }
 
+-- two things, each equal to another, are equal exactly when the others are
+pub alike : {A : Type 0} {a b c d : A} → a ≡ b → c ≡ d → (a ≡ c) ↔ (b ≡ d)
+alike p q = (λ e. sym p ∙ e ∙ q, λ e. p ∙ e ∙ sym q)
+
 -- two lists, each accepted for its own format, read back as equal sewings exactly when they sew the same
 pub same-sewing : (f g : Format) (name name′ : List ℕ) (xs ys xs′ ys′ : List ℤ) (kinds threads kinds′ threads′ : List ℕ)
     → listVerdict f xs ys kinds threads ≡ Accepted → listVerdict g xs′ ys′ kinds′ threads′ ≡ Accepted
     → (readSewing f (fileOf f name (commands xs ys kinds) threads) ≡ readSewing g (fileOf g name′ (commands xs′ ys′ kinds′) threads′))
     ↔ (listSewing (commands xs ys kinds) ≡ listSewing (commands xs′ ys′ kinds′))
 same-sewing f g name name′ xs ys xs′ ys′ kinds threads kinds′ threads′ e e′ =
-    let p = kept f name xs ys kinds threads e .sews-same in
-    let q = kept g name′ xs′ ys′ kinds′ threads′ e′ .sews-same in
-    (λ r. sym p ∙ r ∙ q, λ r. p ∙ r ∙ sym q)
+    alike (kept f name xs ys kinds threads e .sews-same) (kept g name′ xs′ ys′ kinds′ threads′ e′ .sews-same)
 
 -- ---- with buffers that hold the answer, the read is not refused either
 

@@ -5,9 +5,11 @@ use mathlib.Core.List.{List, _++_}
 use native.Mathlib.Omega.{arith}
 use lib.IntN.{ℤ}
 use lib.ListN.{length, take, drop, length-append, length-take}
-use Rattle.rules.specs.Files.{readVerdict, placesTold, runsTold, blocksTold, countsOf, readAnswer, filled, fileTold, writeVerdict, writeAnswer, writeLength}
+use Rattle.rules.specs.Files.{fileOf, readVerdict, placesTold, runsTold, blocksTold, countsOf, readAnswer, filled, fileTold, writeVerdict, writeAnswer, writeLength}
 use Rattle.rules.specs.Lists.{commands}
-use Rattle.rules.specs.Refusals.{extensionOf}
+use Rattle.rules.specs.Refusals.{extensionOf, listVerdict}
+use Rattle.rules.specs.declared.Extension.the-variants.{Of}
+use Rattle.rules.specs.declared.Format.{Format}
 use Rattle.rules.specs.declared.ReadAnswer.{ReadAnswer}
 use Rattle.rules.specs.declared.Refusal.{Refusal}
 use Rattle.rules.specs.declared.Verdict.{Verdict}
@@ -15,7 +17,7 @@ use Rattle.rules.specs.declared.Verdict.the-variants.{Accepted, Refused}
 use Rattle.rules.specs.declared.WriteAnswer.{WriteAnswer}
 use Rattle.rules.specs.declared.WriteAnswer.the-variants.{Written, Unwritten}
 use Rattle.laws.specs.Verdicts.{never-both}
-use Rattle.sewing.specs.Calls.{Wrote, ReadOf, front, write-accepts, sewn}
+use Rattle.sewing.specs.Calls.{Wrote, ReadOf, Room, RoundTrip, front, write-accepts, sewn}
 use Rattle.stitch_box.specs.Back.{orThen, bothVerdict, Keeps}
 
 -- ---- what the calls ensure, by name
@@ -94,56 +96,37 @@ module _ (ext name : List ℕ) (xs ys : List ℤ) (kinds threads d d′ : List �
       unfolding bothVerdict orThen
       then-read = rw (accepted .0)
 
+      -- both calls together
+      abbrev trip : (f : Format) → extensionOf ext ≡ Of f → listVerdict f xs ys kinds threads ≡ Accepted → Room f (fileOf f name (commands xs ys kinds) threads) d ps rs bs → RoundTrip
+      trip f n a m = record {
+        format = f;
+        ext = ext;
+        name = name;
+        xs = xs;
+        ys = ys;
+        kinds = kinds;
+        threads = threads;
+        d = d;
+        d′ = d′;
+        ps = ps;
+        ps′ = ps′;
+        rs = rs;
+        rs′ = rs′;
+        bs = bs;
+        bs′ = bs′;
+        w = w;
+        r = r;
+        named = n;
+        accepted = a;
+        room = m;
+        wrote = p;
+        reads = rw (← told-length) at q;
+      }
+
       pub keeps : Keeps ext name xs ys kinds threads d ps rs bs r ps′ rs′ bs′
       keeps = record {
-        answered = λ f n a m. sewn (record {
-          format = f;
-          ext = ext;
-          name = name;
-          xs = xs;
-          ys = ys;
-          kinds = kinds;
-          threads = threads;
-          d = d;
-          d′ = d′;
-          ps = ps;
-          ps′ = ps′;
-          rs = rs;
-          rs′ = rs′;
-          bs = bs;
-          bs′ = bs′;
-          w = w;
-          r = r;
-          named = n;
-          accepted = a;
-          room = m;
-          wrote = p;
-          reads = rw (← told-length) at q;
-        }) .read;
-        sewn = λ f n a m. sewn (record {
-          format = f;
-          ext = ext;
-          name = name;
-          xs = xs;
-          ys = ys;
-          kinds = kinds;
-          threads = threads;
-          d = d;
-          d′ = d′;
-          ps = ps;
-          ps′ = ps′;
-          rs = rs;
-          rs′ = rs′;
-          bs = bs;
-          bs′ = bs′;
-          w = w;
-          r = r;
-          named = n;
-          accepted = a;
-          room = m;
-          wrote = p;
-          reads = rw (← told-length) at q;
-        }) .same;
+        answered = λ f n a m. sewn (trip f n a m) .read;
+        sewn = λ f n a m. sewn (trip f n a m) .same;
       }
 
   -- ---- the list is refused
