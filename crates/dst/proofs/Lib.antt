@@ -1,6 +1,5 @@
 -- Lemmas that more than one proof cites.
 pub mod Lines
 pub mod Wide
-pub mod Names
 pub mod Text
 pub mod Whole

@@ -4,12 +4,13 @@ use mathlib.Core.Path.{_≡_, sym, _∙_}
 use mathlib.Core.List.{List, [], _∷_, _++_, append-nil}
 use native.Mathlib.Omega.{arith}
 use lib.IntN.{ℤ, natAbs}
-use lib.ListN.{length, length-append}
+use lib.ListN.{length, length-append, length-take}
 use lib.Signed.{nonNeg}
 use Rattle.rules.specs.Dst.{line, signedRight}
-use Rattle.rules.specs.Vocabulary.{pick, joined, right}
+use Rattle.rules.specs.Lists.{dstName}
+use Rattle.rules.specs.Vocabulary.{pick, joined, padded, right}
 use Rattle.laws.specs.Buffers.{Put, put-put, put-as, put-length}
-use Rattle.laws.specs.Decimals.{length-right}
+use Rattle.laws.specs.Decimals.{length-padded, length-right}
 
 pub put-line : {d d₁ d₂ d₃ text : List ℕ} {at m n r a b : ℕ} → Put d d₁ at m (a ∷ b ∷ 0x3A ∷ []) → Put d₁ d₂ m n text → Put d₂ d₃ n r (0x0D ∷ [])
     → Put d d₃ at r (line a b text)
@@ -19,6 +20,10 @@ put-line p q s = put-put p (put-put q s)
 pub length-line : (a b : ℕ) (text : List ℕ) → length (line a b text) ≡ length text + 4
 unfolding line joined
 length-line a b text = simp length-append (omega arith)
+
+pub length-name : (name : List ℕ) → length (padded 16 (dstName name)) ≡ 16
+unfolding dstName
+length-name name = length-padded 16 _ (simp length-take (omega arith))
 
 pub number-line : (a b n v : ℕ) → length (line a b (right n v)) ≡ n + 4
 number-line a b n v = length-line a b (right n v) ∙ rw (length-right n v)

@@ -17,8 +17,7 @@ use Rattle.geom.specs.Frames.{boundsOf}
 use Rattle.geom.specs.declared.Bounds.{Bounds}
 use Rattle.laws.specs.Listing.{noCmd, commands-at}
 use Rattle.dst.specs.Lines.{trimming, countsText, boundsText, lastText, endText}
-use Rattle.dst.proofs.Lines.{length-line, number-line, signed-line}
-use Rattle.dst.proofs.Names.{length-name}
+use Rattle.dst.proofs.Lines.{length-line, length-name, number-line, signed-line}
 
 -- ---- lengths
 

@@ -2,6 +2,7 @@
 use checks::check_list;
 use checks::color_changes;
 use emit::put;
+use emit::put_name;
 use emit::put_right;
 use emit::put_times;
 use emit::put2;
@@ -19,9 +20,9 @@ use rules::Refusal;
 use rules::Verdict;
 use rules::WriteAnswer;
 ghost use mathlib.Core.Path.{_≡_};
-ghost use mathlib.Core.Bool.{_&&_, false};
+ghost use mathlib.Core.Bool.{false};
 ghost use Prim.Native.Nat.{_+_, _-_, _≤_};
-ghost use lib.Dec.{leb, ltb, eqb};
+ghost use lib.Dec.{eqb};
 ghost use lib.IntN.{pos, natAbs};
 ghost use lib.ListN.{length, getD};
 ghost use lib.Signed.{nonNeg};
@@ -35,39 +36,6 @@ ghost use Rattle.rules.specs.declared.Format.the-variants.{Dst};
 ghost use Rattle.laws.specs.Buffers.{Put};
 ghost use Rattle.emit.specs.Answered.{Answered};
 ghost use Rattle.dst.specs.Lines.{trimming, countsText, boundsText, lastText, endText};
-
-// Bytes of a name that stay: ASCII without its controls.
-fn stays(b: u8) -> bool
-    ensures { λ r. ⌜ r ≡ (leb 0x20 b && ltb b 0x7F) ⌝ }
-{
-    if b < 0x20 {
-        return false;
-    }
-    b < 0x7F
-}
-
-// The name in 16 bytes: those that stay, then blanks.
-fn put_name(name: &[u8], out: &mut [u8], at: usize) -> usize
-    requires { ⌜ at + 16 ≤ length (now out) ⌝ }
-    ensures { λ r. ⌜ Put (now (out .entry)) (now (out .exit)) at r (padded 16 (dstName (now (name .entry)))) ⌝ }
-{
-    let mut left: usize = 16;
-    let mut to = at;
-    let mut i = 0;
-    while i < name.len() {
-        if left == 0 {
-            return to;
-        }
-        let b = name[i];
-        i += 1;
-        if !stays(b) {
-            continue;
-        }
-        to = put(out, to, b);
-        left -= 1;
-    }
-    put_times(out, to, 0x20, left)
-}
 
 fn sign_of(z: i64) -> u8
     ensures { λ r. ⌜ r ≡ pick (nonNeg z) 0x2B 0x2D ⌝ }
@@ -106,7 +74,7 @@ fn put_label(name: &[u8], out: &mut [u8], at: usize) -> usize
     ensures { λ r. ⌜ Put (now (out .entry)) (now (out .exit)) at r (line 0x4C 0x41 (padded 16 (dstName (now (name .entry))))) ⌝ }
 {
     let text = put3(out, at, 0x4C, 0x41, 0x3A);
-    let end = put_name(name, out, text);
+    let end = put_name(name, 0x20, 0x7F, 16, out, text);
     put(out, end, 0x0D)
 }
 

@@ -1,11 +1,13 @@
 // Bytes, numbers and texts into a lent buffer: each function puts its bytes from `at` on and answers the place behind them.
 use geom::span;
 ghost use mathlib.Core.Path.{_≡_};
+ghost use mathlib.Core.Bool.{_&&_};
 ghost use mathlib.Core.List.{[], _∷_};
-ghost use Prim.Native.Nat.{_+_, _≤_, _<_};
+ghost use Prim.Native.Nat.{ℕ, _+_, _≤_, _<_};
+ghost use lib.Dec.{leb, ltb};
 ghost use lib.IntN.{natAbs, _-ℤ_};
-ghost use lib.ListN.{length, replicate};
-ghost use Rattle.rules.specs.Vocabulary.{little, digitAt, right};
+ghost use lib.ListN.{length, take, replicate};
+ghost use Rattle.rules.specs.Vocabulary.{keep, little, digitAt, padded, right};
 ghost use Rattle.laws.specs.Buffers.{Put};
 
 pub fn put(out: &mut [u8], at: usize, a: u8) -> usize
@@ -64,6 +66,22 @@ pub fn put_word(out: &mut [u8], at: usize, v: u32) -> usize
     )
 }
 
+// A number in three bytes, the low byte first; what is past them is lost.
+pub fn put_three(out: &mut [u8], at: usize, v: u32) -> usize
+    requires { ⌜ at + 3 ≤ length (now out) ⌝ }
+    ensures { λ r. ⌜ Put (now (out .entry)) (now (out .exit)) at r (little 3 v) ⌝ }
+{
+    let high = v / 256;
+    let top = high / 256;
+    put3(
+        out,
+        at,
+        (v % 256) as u8,
+        (high % 256) as u8,
+        (top % 256) as u8,
+    )
+}
+
 // A number in two bytes, the low byte first; what is past them is lost.
 pub fn put_short(out: &mut [u8], at: usize, v: usize) -> usize
     requires { ⌜ at + 2 ≤ length (now out) ⌝ }
@@ -98,6 +116,40 @@ pub fn put_times(out: &mut [u8], at: usize, a: u8, n: usize) -> usize
         left -= 1;
     }
     to
+}
+
+// Whether a byte is from `low` to before `high`.
+fn stays(b: u8, low: u8, high: u8) -> bool
+    ensures { λ r. ⌜ r ≡ (leb low b && ltb b high) ⌝ }
+{
+    if b < low {
+        return false;
+    }
+    b < high
+}
+
+// Of a name the first `most` bytes that are from `low` to before `high`, filled with blanks to 16 bytes.
+pub fn put_name(name: &[u8], low: u8, high: u8, most: usize, out: &mut [u8], at: usize) -> usize
+    requires { ⌜ (most ≤ 16) × (at + 16 ≤ length (now out)) ⌝ }
+    ensures { λ r. ⌜ Put (now (out .entry)) (now (out .exit)) at r (padded 16 (take most (keep (λ (b : ℕ). leb low b && ltb b high) (now (name .entry))))) ⌝ }
+{
+    let fill = 16 - most;
+    let mut left = most;
+    let mut to = at;
+    let mut i = 0;
+    while i < name.len() {
+        if left == 0 {
+            return put_times(out, to, 0x20, fill);
+        }
+        let b = name[i];
+        i += 1;
+        if !stays(b, low, high) {
+            continue;
+        }
+        to = put(out, to, b);
+        left -= 1;
+    }
+    put_times(out, to, 0x20, fill + left)
 }
 
 const POWERS: [u32; 10] = [

@@ -1,11 +1,12 @@
 // DST: signed digits of weight 81, 27, 9, 3, 1 on each axis.
+use emit::put_three;
 use emit::put3;
 use rules::Op;
 ghost use mathlib.Core.Path.{_≡_};
 ghost use Prim.Native.Nat.{_+_, _/_, _%_, _≤_, _<_};
 ghost use lib.IntN.{pos, natAbs, negℤ, _+ℤ_, _-ℤ_};
 ghost use lib.ListN.{length};
-ghost use Rattle.rules.specs.Vocabulary.{little, fromLittle};
+ghost use Rattle.rules.specs.Vocabulary.{fromLittle};
 ghost use Rattle.rules.specs.Dst.{pair, dstBytes, dstCmd};
 ghost use Rattle.rules.specs.declared.Format.the-variants.{Dst};
 ghost use Rattle.rules.specs.declared.Op.the-variants.{Trim};
@@ -108,22 +109,6 @@ pub fn table(wide: bool) -> [u32; 243]
         t += 1;
     }
     parts
-}
-
-// A number in three bytes, the low byte first; what is past them is lost.
-fn put_three(out: &mut [u8], at: usize, v: u32) -> usize
-    requires { ⌜ at + 3 ≤ length (now out) ⌝ }
-    ensures { λ r. ⌜ Put (now (out .entry)) (now (out .exit)) at r (little 3 v) ⌝ }
-{
-    let high = v / 256;
-    let top = high / 256;
-    put3(
-        out,
-        at,
-        (v % 256) as u8,
-        (high % 256) as u8,
-        (top % 256) as u8,
-    )
 }
 
 // A record put together from its parts.

@@ -1,8 +1,10 @@
 // PEC: the header and the stitch block that a PEC file holds after its signature and a PES file at its end.
 use checks::color_changes;
 use emit::put;
+use emit::put_name;
 use emit::put_short;
 use emit::put_text;
+use emit::put_three;
 use emit::put_times;
 use emit::put2;
 use emit::put3;
@@ -16,11 +18,9 @@ ghost use mathlib.Core.Path.{_≡_};
 ghost use mathlib.Core.Bool.{false};
 ghost use mathlib.Core.List.{[]};
 ghost use Prim.Native.Nat.{_+_, _-_, _≤_};
-ghost use lib.Dec.{ltb};
 ghost use lib.IntN.{pos};
 ghost use lib.ListN.{length, replicate};
-ghost use Rattle.rules.specs.Vocabulary.{little, padded};
-ghost use Rattle.rules.specs.Lists.{commands, pecName, threadsOf};
+ghost use Rattle.rules.specs.Lists.{commands, threadsOf};
 ghost use Rattle.rules.specs.Pec.{pecStart, pecStitches, uniquePalette, pecColors, pecHeader, pecPart};
 ghost use Rattle.rules.specs.Refusals.{stepTooLong};
 ghost use Rattle.rules.specs.declared.Format.the-variants.{Pec};
@@ -28,43 +28,13 @@ ghost use Rattle.laws.specs.Buffers.{Put};
 ghost use Rattle.geom.specs.Frames.{boundsOf};
 ghost use Rattle.pec_part.specs.Parts.{labelText, sizesText, partLong};
 
-// Bytes of a name that stay.
-fn stays(b: u8) -> bool
-    ensures { λ r. ⌜ r ≡ ltb b 0x80 ⌝ }
-{
-    b < 0x80
-}
-
-// The name in 16 bytes: at most 8 that stay, then blanks.
-fn put_name(name: &[u8], out: &mut [u8], at: usize) -> usize
-    requires { ⌜ at + 16 ≤ length (now out) ⌝ }
-    ensures { λ r. ⌜ Put (now (out .entry)) (now (out .exit)) at r (padded 16 (pecName (now (name .entry)))) ⌝ }
-{
-    let mut left: usize = 8;
-    let mut to = at;
-    let mut i = 0;
-    while i < name.len() {
-        if left == 0 {
-            return put_times(out, to, 0x20, 8);
-        }
-        let b = name[i];
-        i += 1;
-        if !stays(b) {
-            continue;
-        }
-        to = put(out, to, b);
-        left -= 1;
-    }
-    put_times(out, to, 0x20, 8 + left)
-}
-
 // `LA:`, the name, a carriage return, 12 blanks, FF 00, 6 bytes by 38 rows.
 fn put_label(name: &[u8], out: &mut [u8], at: usize) -> usize
     requires { ⌜ at + 36 ≤ length (now out) ⌝ }
     ensures { λ r. ⌜ Put (now (out .entry)) (now (out .exit)) at r (labelText (now (name .entry))) ⌝ }
 {
     let text = put3(out, at, 0x4C, 0x41, 0x3A);
-    let end = put_name(name, out, text);
+    let end = put_name(name, 0x00, 0x80, 8, out, text);
     let blanks = put(out, end, 0x0D);
     let picture = put_times(out, blanks, 0x20, 12);
     put4(out, picture, 0xFF, 0x00, 0x06, 0x26)
@@ -117,22 +87,6 @@ fn put_header(name: &[u8], threads: &[u8], out: &mut [u8], at: usize) -> usize
     put_fill(threads.len() / 3, out, fill)
 }
 
-// A number in three bytes, the low byte first.
-fn put_three(v: usize, out: &mut [u8], at: usize) -> usize
-    requires { ⌜ at + 3 ≤ length (now out) ⌝ }
-    ensures { λ r. ⌜ Put (now (out .entry)) (now (out .exit)) at r (little 3 v) ⌝ }
-{
-    let high = v / 256;
-    let top = high / 256;
-    put3(
-        out,
-        at,
-        (v % 256) as u8,
-        (high % 256) as u8,
-        (top % 256) as u8,
-    )
-}
-
 // What stands before n bytes of stitches.
 fn put_sizes(n: usize, w: u32, h: u32, out: &mut [u8], at: usize) -> usize
     requires { ⌜ n ≤ 1000000 ⌝ }
@@ -140,7 +94,7 @@ fn put_sizes(n: usize, w: u32, h: u32, out: &mut [u8], at: usize) -> usize
     ensures { λ r. ⌜ Put (now (out .entry)) (now (out .exit)) at r (sizesText n w h) ⌝ }
 {
     let long = put2(out, at, 0x00, 0x00);
-    let mark = put_three(16 + n, out, long);
+    let mark = put_three(out, long, (16 + n) as u32);
     let wide = put3(out, mark, 0x31, 0xFF, 0xF0);
     let high = put_short(out, wide, w as usize);
     let third = put_short(out, high, h as usize);

@@ -1,8 +1,8 @@
 -- A line in three parts.
 use native.Mathlib.Omega.{arith}
 use denote.Ref.{now}
-use Rattle.dst.proofs.Lines.{put-line, after-put}
-use Rattle.dst.proofs.Names.{length-name}
+use Rattle.rules.specs.Lists.{dstName}
+use Rattle.dst.proofs.Lines.{put-line, length-name, after-put}
 use borrow.Author.Needs.{needs}
 use Rattle.dst.proofs.put_label.Statement.{statement}
 use Rattle.dst.proofs.put_label.Tie as tie
@@ -14,12 +14,14 @@ put-name-requires : tie.Need-put-name-requires
 put-name-requires c κs = search needs
 
 put-requires : tie.Need-put-requires
+unfolding dstName
 put-requires c κs = omega (arith, after-put (length-name (now (c .before .before .before .before .before .before .before .before .before .before .before .args .name))) (c .before .before .before .put-name .ensures), c .before .before .before .before .before .before .before .put3 .ensures .ends, c .before .before .before .before .before .before .before .put3 .kept .0, c .before .before .before .before .before .before .before .before .before .before .before .pre)
 
 same-length : tie.Need-same-length
 same-length c = search needs
 
 returns : tie.Need-returns
+unfolding dstName
 returns c = put-line (c .before .before .before .before .before .before .before .before .before .before .put3 .ensures) (c .before .before .before .before .before .before .put-name .ensures) (c .before .before .put .ensures)
 
 pub put-label-spec : {M : Type 1} → statement M

@@ -12,6 +12,9 @@ put2-requires c κs = search needs
 add-put-three : tie.Need-add-put-three
 add-put-three c = search needs
 
+cast-put-three : tie.Need-cast-put-three
+cast-put-three c = search needs
+
 put-three-requires : tie.Need-put-three-requires
 put-three-requires c κs = search needs
 
@@ -48,6 +51,7 @@ put-sizes-spec =
     (tie.spec
     put2-requires
     add-put-three
+    cast-put-three
     put-three-requires
     put3-requires
     put-short-requires

@@ -1,8 +1,8 @@
 -- The three lowest bytes.
 use borrow.Author.Needs.{needs}
 use Rattle.rules.specs.Vocabulary.{little}
-use Rattle.encode_cmd.proofs.triples.put_three.Statement.{statement}
-use Rattle.encode_cmd.proofs.triples.put_three.Tie as tie
+use Rattle.emit.proofs.put_three.Statement.{statement}
+use Rattle.emit.proofs.put_three.Tie as tie
 
 cast-put3 : tie.Need-cast-put3
 cast-put3 c = search needs
