@@ -1,13 +1,12 @@
--- The loops over the list: the next command's bytes, those of the commands after it, the same for a stitch that needs no pause, and that a step is small.
--- Assumes nothing.
+-- A stitch that needs no pause, its bytes and those of the commands after it, and that a step is small. Assumes nothing.
 use Prim.Native.Nat.{ℕ, _+_, _^_, _≤_, _<_}
 use mathlib.Core.Path.{_≡_, refl}
 use mathlib.Core.Bool.{Bool, true, false, not, _&&_, _||_}
-use mathlib.Core.List.{List, [], _∷_, _++_}
+use mathlib.Core.List.{List, _++_}
 use lib.Dec.{eqb}
 use borrow.Author.Tests.{eqb-true}
 use lib.IntN.{ℤ, pos, negℤ, natAbs, _-ℤ_}
-use lib.ListN.{length, drop, getD, length-append}
+use lib.ListN.{length, drop, getD}
 use lib.Signed.{mag}
 use mir.Syntax.{w32}
 use mir.Val.{hbits, toZ, ofZ}
@@ -20,8 +19,8 @@ use Rattle.rules.specs.declared.Format.the-variants.{Pec}
 use Rattle.rules.specs.declared.Op.{Op}
 use Rattle.rules.specs.declared.Op.the-variants.{Stitch, Jump, Trim, ColorChange, End}
 use Rattle.laws.specs.Tests.{and-left, and-right, or-no-left, or-no-right}
-use Rattle.laws.specs.Ints.{ints, ret, abs-le, between-true}
-use Rattle.laws.specs.Listing.{commands-more, list-end}
+use Rattle.laws.specs.Ints.{ints, abs-le, between-true}
+use Rattle.laws.specs.Listing.{commands-more}
 use Rattle.pec_cmd.specs.declared.State.{State}
 use Rattle.pec_cmd.specs.States.{stateOf, Step}
 use Rattle.pec_cmd.proofs.Values.{un-not, un-not-not}
@@ -99,61 +98,10 @@ module _ (xs ys : List ℤ) (ks : List ℕ) (i : ℕ) (x y : ℤ) (l : i < lengt
     pub plain-near : later ≡ false
     plain-near = or-no-right (not (stepIn Pec dx dy)) later neither
 
--- ---- one more command, and the end
+-- ---- a place as the code reads it, through its bits, which hold it
 
--- a place as the code reads it, through its bits, which hold it
 abbrev pub readAt : List ℤ → ℕ → ℤ
 readAt xs i = toZ w32 (ofZ w32 (getD xs i (pos 0)))
 
 abbrev pub Held : List ℤ → ℕ → Type 0
 Held xs i = mag (getD xs i (pos 0)) < 2 ^ hbits w32
-
-module _ (xs ys : List ℤ) (ks : List ℕ) (i : ℕ) (s : PecState) where
-  abbrev cs : List Cmd
-  cs = commands xs ys ks
-
-  -- the bytes of the commands after the one at i
-  abbrev pub bytesAfter : List ℕ
-  bytesAfter = pecStitches (pecNext s (opOf (getD ks i 0))) (readAt xs i) (readAt ys i) (drop (i + 1) cs)
-
-  module _ (x y : ℤ) where
-    -- those of the command at i
-    abbrev pub bytesAt : List ℕ
-    bytesAt = pecCmd s (opOf (getD ks i 0)) (readAt xs i -ℤ x) (readAt ys i -ℤ y)
-
-    pub no-bytes : length cs ≤ i → pecStitches s x y (drop i cs) ≡ []
-    unfolding pecStitches
-    no-bytes l = rw (list-end cs i l)
-
-    -- those of its steps, and of the commands after it in the same state
-    abbrev pub stepsAt : List ℕ
-    stepsAt = pecValue (readAt xs i -ℤ x) ++ pecValue (readAt ys i -ℤ y)
-
-    abbrev pub stillAfter : List ℕ
-    stillAfter = pecStitches s (readAt xs i) (readAt ys i) (drop (i + 1) cs)
-
-    module _ (l : i < length cs) (p : Held xs i) (q : Held ys i) where
-      one-more : drop i cs ≡ record { x = readAt xs i; y = readAt ys i; kind = getD ks i 0 } ∷ drop (i + 1) cs
-      one-more = rw (ret w32 (getD xs i (pos 0)) p, ret w32 (getD ys i (pos 0)) q) (commands-more xs ys ks i l)
-
-      pub next-bytes : pecStitches s x y (drop i cs) ≡ bytesAt ++ bytesAfter
-      unfolding pecStitches
-      next-bytes = rw one-more
-
-      pub next-long : length (pecStitches s x y (drop i cs)) ≡ length bytesAt + length bytesAfter
-      next-long = rw next-bytes (length-append bytesAt bytesAfter)
-
-      module _ (g : Going s (getD ks i 0)) where
-        pub going-bytes : pecStitches s x y (drop i cs) ≡ stepsAt ++ stillAfter
-        going-bytes = rw (ret w32 (getD xs i (pos 0)) p, ret w32 (getD ys i (pos 0)) q) (plain-going xs ys ks i x y l s g)
-
-        pub going-long : length (pecStitches s x y (drop i cs)) ≡ length stepsAt + length stillAfter
-        going-long = rw going-bytes (length-append stepsAt stillAfter)
-
-      -- no step is too long: not this one, and none later
-      module _ (e : anyFrom (stepsPast Pec) x y (drop i cs) ≡ false) where
-        pub next-step : Step (readAt xs i -ℤ x) (readAt ys i -ℤ y)
-        next-step = rw (ret w32 (getD xs i (pos 0)) p, ret w32 (getD ys i (pos 0)) q) (plain-step xs ys ks i x y l e)
-
-        pub next-near : anyFrom (stepsPast Pec) (readAt xs i) (readAt ys i) (drop (i + 1) cs) ≡ false
-        next-near = rw (ret w32 (getD xs i (pos 0)) p, ret w32 (getD ys i (pos 0)) q) (plain-near xs ys ks i x y l e)

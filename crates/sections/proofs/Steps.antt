@@ -16,7 +16,7 @@ use Rattle.rules.specs.declared.Color.{Color}
 use Rattle.rules.specs.declared.Op.{Op}
 use Rattle.rules.specs.declared.Op.the-variants.{Stitch, Jump, Trim, ColorChange, End}
 use Rattle.laws.specs.Tests.{by-test}
-use Rattle.laws.specs.Listing.{cmdAt, commands-more, list-end}
+use Rattle.laws.specs.Listing.{length-commands, cmdAt, commands-more, list-end}
 use Rattle.laws.specs.Lengths.{length-point}
 use Rattle.pes_cmd.specs.States.{movedTo, openLen, cmdLen, logs}
 use Rattle.pes_cmd.proofs.Lengths.{gap, open-long}
@@ -41,6 +41,18 @@ cmd-long left bottom s new ColorChange c cs = refl
 cmd-long left bottom s new End c cs = refl
 
 -- ---- what the loops know
+
+-- the command at i is in the lists, which are not long
+pub record Listed (xs ys : List ℤ) (ks : List ℕ) (i : ℕ) : Type 0 where
+  pub few : i < 65535
+  pub across : i < length xs
+  pub down : i < length ys
+  pub kind : i < length ks
+
+pub listed : {xs ys : List ℤ} {ks : List ℕ} {i n : ℕ} → n ≡ length (commands xs ys ks) → i < n → length ks ≤ 65535 → Listed xs ys ks i
+listed {xs} {ys} {ks} e l m =
+    let long = length-commands xs ys ks in
+    record { few = omega arith; across = omega arith; down = omega arith; kind = omega arith }
 
 -- how many threads and sections a list has come to before the command at i
 pub record Within (i : ℕ) (s : PesState) : Type 0 where

@@ -1,77 +1,68 @@
 -- The steps, the two tests of `between` and the kind.
-use mathlib.Core.Path.{sym, _∙_}
+use mathlib.Core.Path.{refl, sym, _∙_}
 use mathlib.Core.Bool.{_&&_}
 use native.Mathlib.Omega.{arith}
 use denote.Ref.{now}
 use mir.Syntax.{w32}
 use Rattle.laws.specs.Tests.{and-left, and-right}
 use Rattle.laws.specs.Ints.{ret}
-use Rattle.laws.specs.Listing.{length-commands}
+use Rattle.pec_cmd.specs.States.{Step}
+use Rattle.pec.specs.Shorts.{stepTo}
 use Rattle.pec.proofs.Runs.{read-step, near-step}
+use Rattle.pec.proofs.Turns.{Listed, listed}
 use borrow.Author.Tests.{eqb-true}
 use borrow.Author.Needs.{needs}
 use Rattle.pec.proofs.is_short_at.Statement.{statement}
 use Rattle.pec.proofs.is_short_at.Tie as tie
 
+-- the command is in the lists, and the steps to it are small
+here : (c : tie.Start) → (let a = c .args in Listed (now (a .xs)) (now (a .ys)) (now (a .kinds)) (a .i))
+here c = listed refl (c .pre .0 .1)
+
+near : (c : tie.Start) → (let a = c .args in Step (stepTo (now (a .xs)) (a .i)) (stepTo (now (a .ys)) (a .i)))
+near c =
+    let a = c .args in
+    near-step (now (a .xs)) (now (a .ys)) (now (a .kinds)) (c .pre .1) (a .i) (c .pre .0 .0) (c .pre .0 .1)
+
 sub-step : tie.Need-sub-step
 sub-step c = search needs
 
 mul-step : tie.Need-mul-step
-mul-step c =
-    let a = c .before .args in
-    omega (arith, length-commands (now (a .xs)) (now (a .ys)) (now (a .kinds)))
+mul-step c = omega (arith, here (c .before))
 
 shared-slice-copy-out-step : tie.Need-shared-slice-copy-out-step
-shared-slice-copy-out-step c =
-    let a = c .before .args in
-    omega (arith, length-commands (now (a .xs)) (now (a .ys)) (now (a .kinds)))
+shared-slice-copy-out-step c = omega (arith, here (c .before))
 
 mul-step-2 : tie.Need-mul-step-2
-mul-step-2 c =
-    let a = c .before .before .args in
-    omega (arith, length-commands (now (a .xs)) (now (a .ys)) (now (a .kinds)))
+mul-step-2 c = omega (arith, here (c .before .before))
 
 shared-slice-copy-out-step-2 : tie.Need-shared-slice-copy-out-step-2
-shared-slice-copy-out-step-2 c =
-    let a = c .before .before .args in
-    omega (arith, length-commands (now (a .xs)) (now (a .ys)) (now (a .kinds)))
+shared-slice-copy-out-step-2 c = omega (arith, here (c .before .before))
 
 step-requires : tie.Need-step-requires
 step-requires c κs =
     let start = c .before .before .before in
-    let a = start .args in
-    let near = near-step (now (a .xs)) (now (a .ys)) (now (a .kinds)) (start .pre .1) (a .i) (start .pre .0 .0) (start .pre .0 .1) in
-    rw (read-step (now (a .xs)) (a .i) (c .before .step-arg .given) (c .step-arg2 .given)) (near .x)
+    rw (read-step (now (start .args .xs)) (start .args .i) (c .before .step-arg .given) (c .step-arg2 .given)) (near start .x)
 
 sub-step-2 : tie.Need-sub-step-2
 sub-step-2 c = search needs
 
 mul-step-3 : tie.Need-mul-step-3
-mul-step-3 c =
-    let a = c .before .before .before .before .args in
-    omega (arith, length-commands (now (a .xs)) (now (a .ys)) (now (a .kinds)))
+mul-step-3 c = omega (arith, here (c .before .before .before .before))
 
 shared-slice-copy-out-step-3 : tie.Need-shared-slice-copy-out-step-3
-shared-slice-copy-out-step-3 c =
-    let a = c .before .before .before .before .args in
-    omega (arith, length-commands (now (a .xs)) (now (a .ys)) (now (a .kinds)))
+shared-slice-copy-out-step-3 c = omega (arith, here (c .before .before .before .before))
 
 mul-step-4 : tie.Need-mul-step-4
-mul-step-4 c =
-    let a = c .before .before .before .before .before .args in
-    omega (arith, length-commands (now (a .xs)) (now (a .ys)) (now (a .kinds)))
+mul-step-4 c = omega (arith, here (c .before .before .before .before .before))
 
 shared-slice-copy-out-step-4 : tie.Need-shared-slice-copy-out-step-4
-shared-slice-copy-out-step-4 c =
-    let a = c .before .before .before .before .before .args in
-    omega (arith, length-commands (now (a .xs)) (now (a .ys)) (now (a .kinds)))
+shared-slice-copy-out-step-4 c = omega (arith, here (c .before .before .before .before .before))
 
 step-requires-2 : tie.Need-step-requires-2
 step-requires-2 c κs =
     let start = c .before .before .before .before .before .before in
-    let a = start .args in
-    let near = near-step (now (a .xs)) (now (a .ys)) (now (a .kinds)) (start .pre .1) (a .i) (start .pre .0 .0) (start .pre .0 .1) in
-    rw (read-step (now (a .ys)) (a .i) (c .before .step-arg3 .given) (c .step-arg4 .given)) (near .y)
+    rw (read-step (now (start .args .ys)) (start .args .i) (c .before .step-arg3 .given) (c .step-arg4 .given)) (near start .y)
 
 is-short-requires : tie.Need-is-short-requires
 is-short-requires c κs = search needs
@@ -80,9 +71,7 @@ is-short-requires-2 : tie.Need-is-short-requires-2
 is-short-requires-2 c κs = search needs
 
 shared-slice-read-result : tie.Need-shared-slice-read-result
-shared-slice-read-result c =
-    let a = c .before .before .before .before .before .before .before .before .before .before .args in
-    omega (arith, length-commands (now (a .xs)) (now (a .ys)) (now (a .kinds)))
+shared-slice-read-result c = omega (arith, here (c .before .before .before .before .before .before .before .before .before .before))
 
 returns : tie.Need-returns
 returns c =

@@ -1,17 +1,19 @@
 -- What is written is as far as k, and what comes is from there to j.
-use mathlib.Core.Path.{_∙_}
-use mathlib.Core.List.{[], _∷_}
-use Prim.Native.Nat.{_+_, _-_, _≤_}
+use mathlib.Core.Path.{_≡_, refl, _∙_}
+use mathlib.Core.List.{List, [], _∷_}
+use Prim.Native.Nat.{ℕ, _+_, _-_, _≤_, _<_}
 use native.Mathlib.Omega.{arith}
 use denote.Ref.{now}
+use lib.IntN.{ℤ, natAbs}
 use mir.Syntax.{w32}
+use mir.Val.{toZ, ofZ}
 use Rattle.rules.specs.Vocabulary.{bitsOf}
-use Rattle.laws.specs.Listing.{length-commands}
 use Rattle.laws.specs.Ints.{ret}
 use Rattle.laws.specs.Buffers.{Writing, writing-start, writing-room, writing-more, writing-done}
 use Rattle.pec.specs.Shorts.{stepTo, pairs}
 use Rattle.pec_cmd.proofs.Values.{short-abs}
 use Rattle.pec.proofs.Runs.{read-step, length-pairs, more-pairs, no-pairs}
+use Rattle.pec.proofs.Turns.{Listed, listed}
 use Rattle.pec.proofs.put_shorts.Statement.{statement}
 use Rattle.pec.proofs.put_shorts.Tie as tie
 
@@ -29,117 +31,89 @@ loop-holds c =
     let whole = pairs (now (a .xs)) (now (a .ys)) (a .i) (a .j - a .i) in
     (omega arith, writing-start (now (a .out)) (a .at) whole (omega (arith, length-pairs (now (a .xs)) (now (a .ys)) (a .i) (a .j - a .i), start .pre .1 .1)))
 
+-- what is said of the lists and of k, as a turn begins
+abbrev On : (List ℤ → List ℤ → List ℕ → ℕ → Type 0) → tie.At-loop Inv-loop μ-loop → Type 0
+On P head =
+    let a = head .before .before .before .args in
+    P (now (a .xs)) (now (a .ys)) (now (a .kinds)) (head .loop .k)
+
+-- the command at k is in the lists, and so is the one before it
+here : (c : tie.In-loop Inv-loop μ-loop) → On (λ xs ys ks k. (0 < k) × Listed xs ys ks k) (c .before)
+here c = (omega arith, listed refl (omega arith))
+
+-- its steps are short
+short : (c : tie.In-loop Inv-loop μ-loop) → On (λ xs ys ks k. (natAbs (stepTo xs k) ≤ 63) × (natAbs (stepTo ys k) ≤ 63)) (c .before)
+short c =
+    let start = c .before .before .before .before in
+    let k = c .before .loop .k in
+    let t = start .pre .1 .0 k (c .before .loop .inv .0) (c .loop-test .taken) in
+    (short-abs (stepTo (now (start .args .xs)) k) (t .x), short-abs (stepTo (now (start .args .ys)) k) (t .y))
+
 sub-step : tie.Need-sub-step Inv-loop μ-loop
-sub-step c =
-    let a = c .before .before .before .before .args in
-    omega (arith, length-commands (now (a .xs)) (now (a .ys)) (now (a .kinds)), c .before .before .before .before .pre .0 .0, c .before .loop .inv .0)
+sub-step c = omega (arith, here c)
 
 mul-step : tie.Need-mul-step Inv-loop μ-loop
-mul-step c =
-    let a = c .before .before .before .before .args in
-    omega (arith, length-commands (now (a .xs)) (now (a .ys)) (now (a .kinds)), c .before .before .before .before .pre .0 .0, c .before .loop .inv .0)
+mul-step c = omega (arith, here c)
 
 shared-slice-copy-out-step : tie.Need-shared-slice-copy-out-step Inv-loop μ-loop
-shared-slice-copy-out-step c =
-    let a = c .before .before .before .before .args in
-    omega (arith, length-commands (now (a .xs)) (now (a .ys)) (now (a .kinds)), c .before .before .before .before .pre .0 .0, c .before .loop .inv .0)
+shared-slice-copy-out-step c = omega (arith, here c)
 
 mul-step-2 : tie.Need-mul-step-2 Inv-loop μ-loop
-mul-step-2 c =
-    let head = c .before .before in
-    let start = head .before .before .before in
-    let a = start .args in
-    omega (arith, length-commands (now (a .xs)) (now (a .ys)) (now (a .kinds)), start .pre .0 .0, head .loop .inv .0)
+mul-step-2 c = omega (arith, here (c .before))
 
 shared-slice-copy-out-step-2 : tie.Need-shared-slice-copy-out-step-2 Inv-loop μ-loop
-shared-slice-copy-out-step-2 c =
-    let head = c .before .before in
-    let start = head .before .before .before in
-    let a = start .args in
-    omega (arith, length-commands (now (a .xs)) (now (a .ys)) (now (a .kinds)), start .pre .0 .0, head .loop .inv .0)
+shared-slice-copy-out-step-2 c = omega (arith, here (c .before))
 
 step-requires : tie.Need-step-requires Inv-loop μ-loop
 step-requires c κs =
     let inside = c .before .before in
-    let head = inside .before in
-    let start = head .before .before .before in
-    let a = start .args in
-    let k = head .loop .k in
-    let t = start .pre .1 .0 k (head .loop .inv .0) (inside .loop-test .taken) in
-    rw (read-step (now (a .xs)) k (c .before .step-arg .given) (c .step-arg2 .given)) (omega (arith, short-abs (stepTo (now (a .xs)) k) (t .x)))
+    let a = inside .before .before .before .before .args in
+    rw (read-step (now (a .xs)) (inside .before .loop .k) (c .before .step-arg .given) (c .step-arg2 .given)) (omega (arith, short inside .0))
 
 sub-step-2 : tie.Need-sub-step-2 Inv-loop μ-loop
-sub-step-2 c =
-    let head = c .before .before .before .before in
-    let start = head .before .before .before in
-    let a = start .args in
-    omega (arith, length-commands (now (a .xs)) (now (a .ys)) (now (a .kinds)), start .pre .0 .0, head .loop .inv .0)
+sub-step-2 c = omega (arith, here (c .before .before .before))
 
 mul-step-3 : tie.Need-mul-step-3 Inv-loop μ-loop
-mul-step-3 c =
-    let head = c .before .before .before .before in
-    let start = head .before .before .before in
-    let a = start .args in
-    omega (arith, length-commands (now (a .xs)) (now (a .ys)) (now (a .kinds)), start .pre .0 .0, head .loop .inv .0)
+mul-step-3 c = omega (arith, here (c .before .before .before))
 
 shared-slice-copy-out-step-3 : tie.Need-shared-slice-copy-out-step-3 Inv-loop μ-loop
-shared-slice-copy-out-step-3 c =
-    let head = c .before .before .before .before in
-    let start = head .before .before .before in
-    let a = start .args in
-    omega (arith, length-commands (now (a .xs)) (now (a .ys)) (now (a .kinds)), start .pre .0 .0, head .loop .inv .0)
+shared-slice-copy-out-step-3 c = omega (arith, here (c .before .before .before))
 
 mul-step-4 : tie.Need-mul-step-4 Inv-loop μ-loop
-mul-step-4 c =
-    let head = c .before .before .before .before .before in
-    let start = head .before .before .before in
-    let a = start .args in
-    omega (arith, length-commands (now (a .xs)) (now (a .ys)) (now (a .kinds)), start .pre .0 .0, head .loop .inv .0)
+mul-step-4 c = omega (arith, here (c .before .before .before .before))
 
 shared-slice-copy-out-step-4 : tie.Need-shared-slice-copy-out-step-4 Inv-loop μ-loop
-shared-slice-copy-out-step-4 c =
-    let head = c .before .before .before .before .before in
-    let start = head .before .before .before in
-    let a = start .args in
-    omega (arith, length-commands (now (a .xs)) (now (a .ys)) (now (a .kinds)), start .pre .0 .0, head .loop .inv .0)
+shared-slice-copy-out-step-4 c = omega (arith, here (c .before .before .before .before))
 
 step-requires-2 : tie.Need-step-requires-2 Inv-loop μ-loop
 step-requires-2 c κs =
     let inside = c .before .before .before .before .before in
-    let head = inside .before in
-    let start = head .before .before .before in
-    let a = start .args in
-    let k = head .loop .k in
-    let t = start .pre .1 .0 k (head .loop .inv .0) (inside .loop-test .taken) in
-    rw (read-step (now (a .ys)) k (c .before .step-arg3 .given) (c .step-arg4 .given)) (omega (arith, short-abs (stepTo (now (a .ys)) k) (t .y)))
+    let a = inside .before .before .before .before .args in
+    rw (read-step (now (a .ys)) (inside .before .loop .k) (c .before .step-arg3 .given) (c .step-arg4 .given)) (omega (arith, short inside .1))
+
+-- the steps as the code has them
+across : (c : tie.After-step Inv-loop μ-loop) → On (λ xs ys ks k. toZ w32 (ofZ w32 (c .step .result)) ≡ stepTo xs k) (c .before .before .before .before)
+across c =
+    let head = c .before .before .before .before in
+    let a = head .before .before .before .args in
+    ret w32 (c .step .result) (c .step .ok) ∙ c .step .ensures ∙ read-step (now (a .xs)) (head .loop .k) (c .before .before .step-arg .given) (c .before .step-arg2 .given)
+
+down : (c : tie.After-step2 Inv-loop μ-loop) → On (λ xs ys ks k. toZ w32 (ofZ w32 (c .step2 .result)) ≡ stepTo ys k) (c .before .before .before .before .before .before .before)
+down c =
+    let head = c .before .before .before .before .before .before .before in
+    let a = head .before .before .before .args in
+    ret w32 (c .step2 .result) (c .step2 .ok) ∙ c .step2 .ensures ∙ read-step (now (a .ys)) (head .loop .k) (c .before .before .step-arg3 .given) (c .before .step-arg4 .given)
+
+small : (c : tie.After-step2 Inv-loop μ-loop) → (natAbs (toZ w32 (ofZ w32 (c .before .before .before .step .result))) ≤ 63) × (natAbs (toZ w32 (ofZ w32 (c .step2 .result))) ≤ 63)
+small c =
+    let t = short (c .before .before .before .before .before .before) in
+    (rw (across (c .before .before .before)) (t .0), rw (down c) (t .1))
 
 low7-requires : tie.Need-low7-requires Inv-loop μ-loop
-low7-requires c κs =
-    let across = c .before .before .before .before in
-    let x-to = across .before in
-    let x-from = x-to .before in
-    let inside = x-from .before in
-    let head = inside .before in
-    let start = head .before .before .before in
-    let a = start .args in
-    let k = head .loop .k in
-    let t = start .pre .1 .0 k (head .loop .inv .0) (inside .loop-test .taken) in
-    let dx = ret w32 (across .step .result) (across .step .ok) ∙ across .step .ensures ∙ read-step (now (a .xs)) k (x-from .step-arg .given) (x-to .step-arg2 .given) in
-    rw dx (short-abs (stepTo (now (a .xs)) k) (t .x))
+low7-requires c κs = omega (arith, small (c .before))
 
 low7-requires-2 : tie.Need-low7-requires-2 Inv-loop μ-loop
-low7-requires-2 c κs =
-    let up = c .before .before in
-    let y-to = up .before in
-    let y-from = y-to .before in
-    let inside = y-from .before .before .before .before in
-    let head = inside .before in
-    let start = head .before .before .before in
-    let a = start .args in
-    let k = head .loop .k in
-    let t = start .pre .1 .0 k (head .loop .inv .0) (inside .loop-test .taken) in
-    let dy = ret w32 (up .step2 .result) (up .step2 .ok) ∙ up .step2 .ensures ∙ read-step (now (a .ys)) k (y-from .step-arg3 .given) (y-to .step-arg4 .given) in
-    rw dy (short-abs (stepTo (now (a .ys)) k) (t .y))
+low7-requires-2 c κs = omega (arith, small (c .before .before))
 
 put2-requires : tie.Need-put2-requires Inv-loop μ-loop
 put2-requires c κs =
@@ -153,9 +127,7 @@ put2-requires c κs =
 add-k : tie.Need-add-k Inv-loop μ-loop
 add-k c =
     let inside = c .before .before .before .before .before .before .before .before .before .before .before .before in
-    let start = inside .before .before .before .before in
-    let a = start .args in
-    omega (arith, length-commands (now (a .xs)) (now (a .ys)) (now (a .kinds)), start .good, start .pre .0, inside .loop-test .taken)
+    omega (arith, here inside, inside .before .before .before .before .good)
 
 loop-less : tie.Need-loop-less Inv-loop μ-loop
 loop-less c = omega arith
@@ -163,22 +135,12 @@ loop-less c = omega arith
 loop-again : tie.Need-loop-again Inv-loop μ-loop
 loop-again c =
     let done = c .before .before in
-    let low-y = done .before in
-    let low-x = low-y .before in
-    let up = low-x .before .before in
-    let y-to = up .before in
-    let y-from = y-to .before in
-    let across = y-from .before in
-    let x-to = across .before in
-    let x-from = x-to .before in
-    let inside = x-from .before in
-    let head = inside .before in
-    let a = head .before .before .before .args in
-    let k = head .loop .k in
-    let dx = ret w32 (across .step .result) (across .step .ok) ∙ across .step .ensures ∙ read-step (now (a .xs)) k (x-from .step-arg .given) (x-to .step-arg2 .given) in
-    let dy = ret w32 (up .step2 .result) (up .step2 .ok) ∙ up .step2 .ensures ∙ read-step (now (a .ys)) k (y-from .step-arg3 .given) (y-to .step-arg4 .given) in
-    let put = rw (low-x .low7 .ensures, low-y .low72 .ensures, dx, dy) at (done .put2 .ensures) in
-    (omega arith, writing-more (head .loop .inv .1) (more-pairs (now (a .xs)) (now (a .ys)) k (a .j) (inside .loop-test .taken)) put)
+    let up = done .before .before .before .before in
+    let inside = up .before .before .before .before .before .before in
+    let a = inside .before .before .before .before .args in
+    let more = more-pairs (now (a .xs)) (now (a .ys)) (inside .before .loop .k) (a .j) (inside .loop-test .taken) in
+    let put = rw (done .before .before .low7 .ensures, done .before .low72 .ensures, across (up .before .before .before), down up) at (done .put2 .ensures) in
+    (omega arith, writing-more (inside .before .loop .inv .1) more put)
 
 same-length : tie.Need-same-length Inv-loop μ-loop
 same-length c = c .before .loop .inv .1 .same

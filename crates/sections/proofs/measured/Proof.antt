@@ -1,19 +1,18 @@
 -- What is measured and what the commands left take come to the whole.
-use mathlib.Core.Path.{_≡_, sym, _∙_}
-use mathlib.Core.Bool.{false}
-use Prim.Native.Nat.{_-_, _*_, _≤_, _<_}
+use mathlib.Core.Path.{_≡_}
+use mathlib.Core.List.{List}
+use Prim.Native.Nat.{ℕ, _-_, _*_, _≤_, _<_}
 use native.Mathlib.Omega.{arith}
 use denote.Ref.{now}
 use lib.IntN.{ℤ, pos}
 use lib.ListN.{length, getD}
 use mir.Syntax.{w32}
 use Rattle.rules.specs.Lists.{commands, threadsOf}
+use Rattle.rules.specs.Pes.{PesState}
 use Rattle.laws.specs.Ints.{ret}
-use Rattle.laws.specs.Listing.{length-commands}
 use Rattle.pes_cmd.specs.States.{stateOf, movedTo}
-use Rattle.sections.proofs.Runs.{run-span}
-use Rattle.sections.proofs.Stretch.{stretch-from, stretch-sizing}
-use Rattle.sections.proofs.Steps.{Within, Sizing, newAt, within-start, within-more, within-on, sizing-start, sizing-more, sizing-done, elsewhere, after-moved}
+use Rattle.sections.proofs.Stretch.{Stretch, stretch-from, stretch-ends, stretch-sizing}
+use Rattle.sections.proofs.Steps.{Listed, listed, Within, Sizing, within-start, within-more, within-on, sizing-start, sizing-more, sizing-done, elsewhere, after-moved}
 use Rattle.sections.proofs.measured.Statement.{statement}
 use Rattle.sections.proofs.measured.Tie as tie
 
@@ -31,6 +30,21 @@ Inv-loop codes threads xs ys kinds n s₀ bytes₀ logged₀ last₀ i₀ s byte
 abbrev μ-loop : tie.MeasureT-loop
 μ-loop codes threads xs ys kinds n s₀ bytes₀ logged₀ last₀ i₀ s bytes logged last i = n - i
 
+-- what is said of the lists, a command's number and the state, as a turn begins
+abbrev On : (List ℤ → List ℤ → List ℕ → ℕ → PesState → Type 0) → tie.At-loop Inv-loop μ-loop → Type 0
+On P head =
+    let a = head .before .before .before .before .before .args in
+    let loop = head .loop in
+    P (now (a .xs)) (now (a .ys)) (now (a .kinds)) (loop .i) (movedTo (stateOf (loop .s)) (loop .inv .1 .1 .0) (loop .inv .1 .1 .1 .0))
+
+-- the command that a turn takes
+here : (c : tie.In-loop Inv-loop μ-loop) → On (λ xs ys ks i s. Listed xs ys ks i) (c .before)
+here c = listed (c .before .loop .inv .0) (c .loop-test .taken) (c .before .before .before .before .before .before .pre .1)
+
+-- the run that goes on
+stretch : (c : tie.After-run-end Inv-loop μ-loop) → On (Stretch (c .run-end .result)) (c .before .before .before .before .before .before)
+stretch c = stretch-from (omega arith) (c .before .before .before .is-new .ensures) (c .before .before .goes-on .ensures (c .before .if1 .taken)) (c .run-end .ensures)
+
 list-len-requires : tie.Need-list-len-requires Inv-loop μ-loop
 list-len-requires c κs = tt
 
@@ -46,9 +60,7 @@ loop-holds c =
     (c .before .list-len .ensures, (rw (c .start .ensures) (within-start ts), (s .x, (s .y, (rw (c .start .ensures) (sizing-start ts cs), (omega arith, omega arith))))))
 
 shared-slice-read-kind : tie.Need-shared-slice-read-kind Inv-loop μ-loop
-shared-slice-read-kind c =
-    let a = c .before .before .before .before .before .before .before .args in
-    omega (arith, length-commands (now (a .xs)) (now (a .ys)) (now (a .kinds)))
+shared-slice-read-kind c = omega (arith, here (c .before))
 
 is-new-requires : tie.Need-is-new-requires Inv-loop μ-loop
 is-new-requires c κs = tt
@@ -60,43 +72,25 @@ run-end-requires : tie.Need-run-end-requires Inv-loop μ-loop
 run-end-requires c κs = omega arith
 
 sub-bytes : tie.Need-sub-bytes Inv-loop μ-loop
-sub-bytes c =
-    let a = c .before .before .before .before .before .before .before .before .before .before .before .args in
-    let span = run-span (now (a .xs)) (now (a .ys)) (now (a .kinds)) (c .before .before .before .before .before .before .loop .i) (omega arith) (c .run-end .ensures) in
-    omega (arith, span .0, span .1)
+sub-bytes c = omega (arith, stretch c .some)
 
 mul-bytes : tie.Need-mul-bytes Inv-loop μ-loop
-mul-bytes c =
-    let a = c .before .before .before .before .before .before .before .before .before .before .before .args in
-    let span = run-span (now (a .xs)) (now (a .ys)) (now (a .kinds)) (c .before .before .before .before .before .before .loop .i) (omega arith) (c .run-end .ensures) in
-    omega (arith, span .0, span .1, length-commands (now (a .xs)) (now (a .ys)) (now (a .kinds)), c .before .before .before .before .before .before .before .before .before .before .before .pre .1)
+mul-bytes c = omega (arith, stretch-ends (stretch c), c .before .before .before .before .before .before .before .before .before .before .before .pre .1)
 
 add-bytes : tie.Need-add-bytes Inv-loop μ-loop
-add-bytes c =
-    let a = c .before .before .before .before .before .before .before .before .before .before .before .args in
-    let span = run-span (now (a .xs)) (now (a .ys)) (now (a .kinds)) (c .before .before .before .before .before .before .loop .i) (omega arith) (c .run-end .ensures) in
-    omega (arith, span .0, span .1, length-commands (now (a .xs)) (now (a .ys)) (now (a .kinds)), c .before .before .before .before .before .before .before .before .before .before .before .pre .1)
+add-bytes c = omega (arith, stretch-ends (stretch c), c .before .before .before .before .before .before .before .before .before .before .before .pre .1)
 
 loop-less : tie.Need-loop-less Inv-loop μ-loop
-loop-less c =
-    let a = c .before .before .before .before .before .before .before .before .before .before .before .args in
-    let span = run-span (now (a .xs)) (now (a .ys)) (now (a .kinds)) (c .before .before .before .before .before .before .loop .i) (omega arith) (c .run-end .ensures) in
-    omega (arith, span .0, span .1)
+loop-less c = omega (arith, stretch c .some, stretch c .inside)
 
 loop-again : tie.Need-loop-again Inv-loop μ-loop
 loop-again c =
     let a = c .before .before .before .before .before .before .before .before .before .before .before .args in
-    let ts = threadsOf (now (a .threads)) in
     let loop = c .before .before .before .before .before .before .loop in
-    let i = loop .i in
     let inv = loop .inv .1 in
-    let s = movedTo (stateOf (loop .s)) (inv .1 .0) (inv .1 .1 .0) in
     let end = c .run-end .result in
-    let l : i < length (commands (now (a .xs)) (now (a .ys)) (now (a .kinds))) = omega arith in
-    let on = c .before .before .goes-on .ensures (c .before .if1 .taken) in
-    let old : newAt (now (a .xs)) (now (a .ys)) (now (a .kinds)) i s ≡ false = sym (c .before .before .before .is-new .ensures) ∙ on .0 in
-    let w = stretch-from (now (a .xs)) (now (a .ys)) (now (a .kinds)) i end s l old (on .1) (c .run-end .ensures) in
-    let sizing = stretch-sizing (now (a .xs)) (now (a .ys)) (now (a .kinds)) ts w (inv .1 .1 .1 .0) in
+    let w = stretch c in
+    let sizing = stretch-sizing w (threadsOf (now (a .threads))) (inv .1 .1 .1 .0) in
     let x = getD (now (a .xs)) (end - 1) (pos 0) in
     let y = getD (now (a .ys)) (end - 1) (pos 0) in
     let within = within-on {j = end} (inv .0) (omega (arith, w .some)) (loop .s .x) (loop .s .y) in
@@ -109,46 +103,34 @@ cmd-len-requires : tie.Need-cmd-len-requires Inv-loop μ-loop
 cmd-len-requires c κs = tt
 
 add-bytes-2 : tie.Need-add-bytes-2 Inv-loop μ-loop
-add-bytes-2 c =
-    let a = c .before .before .before .before .before .before .before .before .before .before .before .before .args in
-    omega (arith, length-commands (now (a .xs)) (now (a .ys)) (now (a .kinds)), c .before .before .before .before .before .before .before .before .before .before .before .before .pre .1, c .cmd-len .ensures .1)
+add-bytes-2 c = omega (arith, here (c .before .before .before .before .before .before), c .cmd-len .ensures .1)
 
 one-if-requires : tie.Need-one-if-requires Inv-loop μ-loop
 one-if-requires c κs = tt
 
 add-logged : tie.Need-add-logged Inv-loop μ-loop
-add-logged c =
-    let a = c .before .before .before .before .before .before .before .before .before .before .before .before .before .args in
-    omega (arith, length-commands (now (a .xs)) (now (a .ys)) (now (a .kinds)), c .before .before .before .before .before .before .before .before .before .before .before .before .before .pre .1, c .one-if .ensures .1)
+add-logged c = omega (arith, here (c .before .before .before .before .before .before .before), c .one-if .ensures .1)
 
 last-code-requires : tie.Need-last-code-requires Inv-loop μ-loop
 last-code-requires c κs = tt
 
 mul-next : tie.Need-mul-next Inv-loop μ-loop
-mul-next c =
-    let a = c .before .before .before .before .before .before .before .before .before .before .before .before .before .before .args in
-    omega (arith, length-commands (now (a .xs)) (now (a .ys)) (now (a .kinds)))
+mul-next c = omega (arith, here (c .before .before .before .before .before .before .before .before))
 
 shared-slice-copy-out-next : tie.Need-shared-slice-copy-out-next Inv-loop μ-loop
-shared-slice-copy-out-next c =
-    let a = c .before .before .before .before .before .before .before .before .before .before .before .before .before .before .args in
-    omega (arith, length-commands (now (a .xs)) (now (a .ys)) (now (a .kinds)))
+shared-slice-copy-out-next c = omega (arith, here (c .before .before .before .before .before .before .before .before))
 
 mul-next-2 : tie.Need-mul-next-2 Inv-loop μ-loop
-mul-next-2 c =
-    let a = c .before .before .before .before .before .before .before .before .before .before .before .before .before .before .before .args in
-    omega (arith, length-commands (now (a .xs)) (now (a .ys)) (now (a .kinds)))
+mul-next-2 c = omega (arith, here (c .before .before .before .before .before .before .before .before .before))
 
 shared-slice-copy-out-next-2 : tie.Need-shared-slice-copy-out-next-2 Inv-loop μ-loop
-shared-slice-copy-out-next-2 c =
-    let a = c .before .before .before .before .before .before .before .before .before .before .before .before .before .before .before .args in
-    omega (arith, length-commands (now (a .xs)) (now (a .ys)) (now (a .kinds)))
+shared-slice-copy-out-next-2 c = omega (arith, here (c .before .before .before .before .before .before .before .before .before))
 
 next-requires : tie.Need-next-requires Inv-loop μ-loop
 next-requires c κs =
-    let a = c .before .before .before .before .before .before .before .before .before .before .before .before .before .before .before .before .args in
-    let w = c .before .before .before .before .before .before .before .before .before .before .before .loop .inv .1 .0 in
-    (c .before .before .before .before .before .before .before .before .before .before .before .before .before .before .before .before .pre .0, omega (arith, length-commands (now (a .xs)) (now (a .ys)) (now (a .kinds)), c .before .before .before .before .before .before .before .before .before .before .before .before .before .before .before .before .pre .1, w .few-threads, w .few-sections))
+    let inside = c .before .before .before .before .before .before .before .before .before .before in
+    let w = inside .before .loop .inv .1 .0 in
+    (inside .before .before .before .before .before .before .pre .0, omega (arith, here inside, w .few-threads, w .few-sections))
 
 add-i : tie.Need-add-i Inv-loop μ-loop
 add-i c = omega arith

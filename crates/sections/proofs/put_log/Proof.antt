@@ -1,21 +1,19 @@
 -- What is written is as far as the place; what comes is the log of the commands left.
-use mathlib.Core.Path.{_≡_, sym, _∙_}
-use mathlib.Core.Bool.{false}
-use Prim.Native.Nat.{_-_, _<_}
+use mathlib.Core.Path.{_≡_}
+use mathlib.Core.List.{List}
+use Prim.Native.Nat.{ℕ, _-_, _<_}
 use native.Mathlib.Omega.{arith}
 use denote.Ref.{now}
 use lib.IntN.{ℤ, pos}
 use lib.ListN.{length, drop, getD}
 use mir.Syntax.{w32}
 use Rattle.rules.specs.Lists.{commands, threadsOf}
-use Rattle.rules.specs.Pes.{pesStart, colorLog, shorts}
+use Rattle.rules.specs.Pes.{PesState, pesStart, colorLog, shorts}
 use Rattle.laws.specs.Buffers.{Writing, writing-start, writing-room, writing-more, writing-done}
 use Rattle.laws.specs.Ints.{ret}
-use Rattle.laws.specs.Listing.{length-commands}
 use Rattle.pes_cmd.specs.States.{stateOf, movedTo}
-use Rattle.sections.proofs.Runs.{run-span}
-use Rattle.sections.proofs.Stretch.{stretch-from, stretch-log}
-use Rattle.sections.proofs.Steps.{Within, newAt, entryAt, logAfter, within-start, within-more, within-on, next-entry, no-entry, elsewhere, after-moved}
+use Rattle.sections.proofs.Stretch.{Stretch, stretch-from, stretch-log}
+use Rattle.sections.proofs.Steps.{Listed, listed, Within, entryAt, logAfter, within-start, within-more, within-on, next-entry, no-entry, elsewhere, after-moved}
 use Rattle.sections.proofs.put_log.Statement.{statement}
 use Rattle.sections.proofs.put_log.Tie as tie
 
@@ -32,6 +30,21 @@ Inv-loop codes threads xs ys kinds out₀ at n s₀ last₀ to₀ i₀ out s las
 abbrev μ-loop : tie.MeasureT-loop
 μ-loop codes threads xs ys kinds out₀ at n s₀ last₀ to₀ i₀ out s last to i = n - i
 
+-- what is said of the lists, a command's number and the state, as a turn begins
+abbrev On : (List ℤ → List ℤ → List ℕ → ℕ → PesState → Type 0) → tie.At-loop Inv-loop μ-loop → Type 0
+On P head =
+    let a = head .before .before .before .before .before .before .args in
+    let loop = head .loop in
+    P (now (a .xs)) (now (a .ys)) (now (a .kinds)) (loop .i) (movedTo (stateOf (loop .s)) (loop .inv .1 .1 .0) (loop .inv .1 .1 .1 .0))
+
+-- the command that a turn takes
+here : (c : tie.In-loop Inv-loop μ-loop) → On (λ xs ys ks i s. Listed xs ys ks i) (c .before)
+here c = listed (c .before .loop .inv .0) (c .loop-test .taken) (c .before .before .before .before .before .before .before .pre .1 .0)
+
+-- the run that goes on
+stretch : (c : tie.After-run-end Inv-loop μ-loop) → On (Stretch (c .run-end .result)) (c .before .before .before .before .before .before)
+stretch c = stretch-from (omega arith) (c .before .before .before .is-new .ensures) (c .before .before .goes-on .ensures (c .before .if1 .taken)) (c .run-end .ensures)
+
 list-len-requires : tie.Need-list-len-requires Inv-loop μ-loop
 list-len-requires c κs = tt
 
@@ -47,9 +60,7 @@ loop-holds c =
     (c .before .list-len .ensures, (rw (c .start .ensures) (within-start ts), (s .x, (s .y, rw (c .start .ensures) (writing-start (now (a .out)) (a .at) whole (c .before .before .before .before .before .pre .1 .1))))))
 
 shared-slice-read-kind : tie.Need-shared-slice-read-kind Inv-loop μ-loop
-shared-slice-read-kind c =
-    let a = c .before .before .before .before .before .before .before .before .args in
-    omega (arith, length-commands (now (a .xs)) (now (a .ys)) (now (a .kinds)))
+shared-slice-read-kind c = omega (arith, here (c .before))
 
 is-new-requires : tie.Need-is-new-requires Inv-loop μ-loop
 is-new-requires c κs = tt
@@ -61,29 +72,19 @@ run-end-requires : tie.Need-run-end-requires Inv-loop μ-loop
 run-end-requires c κs = omega arith
 
 loop-less : tie.Need-loop-less Inv-loop μ-loop
-loop-less c =
-    let a = c .before .before .before .before .before .before .before .before .before .before .before .before .args in
-    let span = run-span (now (a .xs)) (now (a .ys)) (now (a .kinds)) (c .before .before .before .before .before .before .loop .i) (omega arith) (c .run-end .ensures) in
-    omega (arith, span .0, span .1)
+loop-less c = omega (arith, stretch c .some, stretch c .inside)
 
 loop-again : tie.Need-loop-again Inv-loop μ-loop
 loop-again c =
     let a = c .before .before .before .before .before .before .before .before .before .before .before .before .args in
-    let ts = threadsOf (now (a .threads)) in
     let loop = c .before .before .before .before .before .before .loop in
-    let i = loop .i in
     let inv = loop .inv .1 in
-    let s = movedTo (stateOf (loop .s)) (inv .1 .0) (inv .1 .1 .0) in
     let end = c .run-end .result in
-    let l : i < length (commands (now (a .xs)) (now (a .ys)) (now (a .kinds))) = omega arith in
-    let on = c .before .before .goes-on .ensures (c .before .if1 .taken) in
-    let old : newAt (now (a .xs)) (now (a .ys)) (now (a .kinds)) i s ≡ false = sym (c .before .before .before .is-new .ensures) ∙ on .0 in
-    let w = stretch-from (now (a .xs)) (now (a .ys)) (now (a .kinds)) i end s l old (on .1) (c .run-end .ensures) in
-    let e = stretch-log (now (a .xs)) (now (a .ys)) (now (a .kinds)) ts w (loop .last) in
+    let w = stretch c in
     let x = getD (now (a .xs)) (end - 1) (pos 0) in
     let y = getD (now (a .ys)) (end - 1) (pos 0) in
     let within = within-on {j = end} (inv .0) (omega (arith, w .some)) (loop .s .x) (loop .s .y) in
-    (loop .inv .0, (within, (x, (y, rw e at (inv .1 .1 .1)))))
+    (loop .inv .0, (within, (x, (y, rw (stretch-log w (threadsOf (now (a .threads))) (loop .last)) at (inv .1 .1 .1)))))
 
 is-logged-requires : tie.Need-is-logged-requires Inv-loop μ-loop
 is-logged-requires c κs = tt
@@ -104,35 +105,25 @@ last-code-requires : tie.Need-last-code-requires Inv-loop μ-loop
 last-code-requires c κs = tt
 
 mul-next : tie.Need-mul-next Inv-loop μ-loop
-mul-next c =
-    let a = c .before .before .before .before .before .before .before .before .before .before .before .before .before .before .before .before .before .args in
-    omega (arith, length-commands (now (a .xs)) (now (a .ys)) (now (a .kinds)), c .before .before .before .before .before .before .before .before .before .before .before .before .before .before .before .before .before .pre .1 .0)
+mul-next c = omega (arith, here (c .before .before .before .before .before .before .before .before .before .before))
 
 shared-slice-copy-out-next : tie.Need-shared-slice-copy-out-next Inv-loop μ-loop
-shared-slice-copy-out-next c =
-    let a = c .before .before .before .before .before .before .before .before .before .before .before .before .before .before .before .before .before .args in
-    omega (arith, length-commands (now (a .xs)) (now (a .ys)) (now (a .kinds)))
+shared-slice-copy-out-next c = omega (arith, here (c .before .before .before .before .before .before .before .before .before .before))
 
 mul-next-2 : tie.Need-mul-next-2 Inv-loop μ-loop
-mul-next-2 c =
-    let a = c .before .before .before .before .before .before .before .before .before .before .before .before .before .before .before .before .before .before .args in
-    omega (arith, length-commands (now (a .xs)) (now (a .ys)) (now (a .kinds)), c .before .before .before .before .before .before .before .before .before .before .before .before .before .before .before .before .before .before .pre .1 .0)
+mul-next-2 c = omega (arith, here (c .before .before .before .before .before .before .before .before .before .before .before))
 
 shared-slice-copy-out-next-2 : tie.Need-shared-slice-copy-out-next-2 Inv-loop μ-loop
-shared-slice-copy-out-next-2 c =
-    let a = c .before .before .before .before .before .before .before .before .before .before .before .before .before .before .before .before .before .before .args in
-    omega (arith, length-commands (now (a .xs)) (now (a .ys)) (now (a .kinds)))
+shared-slice-copy-out-next-2 c = omega (arith, here (c .before .before .before .before .before .before .before .before .before .before .before))
 
 next-requires : tie.Need-next-requires Inv-loop μ-loop
 next-requires c κs =
-    let a = c .before .before .before .before .before .before .before .before .before .before .before .before .before .before .before .before .before .before .before .args in
-    let w = c .before .before .before .before .before .before .before .before .before .before .before .before .before .loop .inv .1 .0 in
-    (c .before .before .before .before .before .before .before .before .before .before .before .before .before .before .before .before .before .before .before .pre .0, omega (arith, length-commands (now (a .xs)) (now (a .ys)) (now (a .kinds)), c .before .before .before .before .before .before .before .before .before .before .before .before .before .before .before .before .before .before .before .pre .1 .0, w .few-threads, w .few-sections))
+    let inside = c .before .before .before .before .before .before .before .before .before .before .before .before in
+    let w = inside .before .loop .inv .1 .0 in
+    (inside .before .before .before .before .before .before .before .pre .0, omega (arith, here inside, w .few-threads, w .few-sections))
 
 add-i : tie.Need-add-i Inv-loop μ-loop
-add-i c =
-    let a = c .before .before .before .before .before .before .before .before .before .before .before .before .before .before .before .before .before .before .before .before .args in
-    omega (arith, length-commands (now (a .xs)) (now (a .ys)) (now (a .kinds)), c .before .before .before .before .before .before .before .before .before .before .before .before .before .before .before .before .before .before .before .before .pre .1 .0)
+add-i c = omega (arith, here (c .before .before .before .before .before .before .before .before .before .before .before .before .before))
 
 loop-less-2 : tie.Need-loop-less-2 Inv-loop μ-loop
 loop-less-2 c = omega arith

@@ -1,26 +1,24 @@
 -- What is written is as far as the place; what comes is the sections of the commands left.
-use mathlib.Core.Path.{_≡_, sym, _∙_}
-use mathlib.Core.Bool.{false}
-use Prim.Native.Nat.{_-_, _<_}
+use mathlib.Core.Path.{_≡_}
+use mathlib.Core.List.{List}
+use Prim.Native.Nat.{ℕ, _-_, _<_}
 use native.Mathlib.Omega.{arith}
 use denote.Ref.{now}
-use lib.IntN.{pos}
+use lib.IntN.{ℤ, pos}
 use lib.ListN.{length, drop, getD}
 use mir.Syntax.{w32}
 use mir.Val.{toZ, ofZ}
 use mir.Facts.{toZ-ofZ}
 use Rattle.rules.specs.Lists.{commands, threadsOf}
-use Rattle.rules.specs.Pes.{pesStart, pesSections}
+use Rattle.rules.specs.Pes.{PesState, pesStart, pesSections}
 use Rattle.laws.specs.Buffers.{Writing, writing-start, writing-room, writing-more, writing-done}
 use Rattle.laws.specs.Ints.{ret}
-use Rattle.laws.specs.Listing.{length-commands}
 use Rattle.pes_cmd.specs.States.{stateOf, Near}
 use Rattle.sections.specs.Alike.{points}
 use Rattle.sections.specs.States.{placed}
 use Rattle.sections.proofs.Points.{near-at, points-long}
-use Rattle.sections.proofs.Runs.{run-span}
-use Rattle.sections.proofs.Stretch.{stretch-from, stretch-bytes}
-use Rattle.sections.proofs.Steps.{Within, newAt, within-start, within-more, within-on}
+use Rattle.sections.proofs.Stretch.{Stretch, stretch-from, stretch-ends, stretch-bytes}
+use Rattle.sections.proofs.Steps.{Listed, listed, Within, within-start, within-more, within-on}
 use Rattle.sections.proofs.Stream.{bytesAt, bytesAfter, no-bytes, next-bytes, near-start, near-as, near-after}
 use Rattle.sections.proofs.put_sections.Statement.{statement}
 use Rattle.sections.proofs.put_sections.Tie as tie
@@ -38,6 +36,21 @@ Inv-loop left bottom codes threads xs ys kinds out₀ at n s₀ to₀ i₀ out s
 
 abbrev μ-loop : tie.MeasureT-loop
 μ-loop left bottom codes threads xs ys kinds out₀ at n s₀ to₀ i₀ out s to i = n - i
+
+-- what is said of the lists, a command's number and the state, as a turn begins
+abbrev On : (List ℤ → List ℤ → List ℕ → ℕ → PesState → Type 0) → tie.At-loop Inv-loop μ-loop → Type 0
+On P head =
+    let a = head .before .before .before .before .before .before .args in
+    let loop = head .loop in
+    P (now (a .xs)) (now (a .ys)) (now (a .kinds)) (loop .i) (stateOf (loop .s))
+
+-- the command that a turn takes
+here : (c : tie.In-loop Inv-loop μ-loop) → On (λ xs ys ks i s. Listed xs ys ks i) (c .before)
+here c = listed (c .before .loop .inv .0) (c .loop-test .taken) (c .before .before .before .before .before .before .before .pre .1 .0 .0)
+
+-- the run that goes on
+stretch : (c : tie.After-run-end Inv-loop μ-loop) → On (Stretch (c .run-end .result)) (c .before .before .before .before .before .before)
+stretch c = stretch-from (omega arith) (c .before .before .before .is-new .ensures) (c .before .before .goes-on .ensures (c .before .if1 .taken)) (c .run-end .ensures)
 
 list-len-requires : tie.Need-list-len-requires Inv-loop μ-loop
 list-len-requires c κs = tt
@@ -57,9 +70,7 @@ loop-holds c =
     (c .before .list-len .ensures, (rw (c .start .ensures) (within-start ts), ((near, s .pre .1 .0 .1 .1), rw (c .start .ensures) writing)))
 
 shared-slice-read-kind : tie.Need-shared-slice-read-kind Inv-loop μ-loop
-shared-slice-read-kind c =
-    let a = c .before .before .before .before .before .before .before .before .args in
-    omega (arith, length-commands (now (a .xs)) (now (a .ys)) (now (a .kinds)))
+shared-slice-read-kind c = omega (arith, here (c .before))
 
 is-new-requires : tie.Need-is-new-requires Inv-loop μ-loop
 is-new-requires c κs = tt
@@ -75,81 +86,47 @@ put-points-requires c κs =
     let a = c .before .before .before .before .before .before .before .before .before .before .before .before .before .args in
     let left = toZ w32 (ofZ w32 (a .left)) in
     let bottom = toZ w32 (ofZ w32 (a .bottom)) in
-    let ts = threadsOf (now (a .threads)) in
     let loop = c .before .before .before .before .before .before .before .loop in
-    let i = loop .i in
-    let s = stateOf (loop .s) in
-    let end = c .before .run-end .result in
-    let l : i < length (commands (now (a .xs)) (now (a .ys)) (now (a .kinds))) = omega arith in
-    let on = c .before .before .before .goes-on .ensures (c .before .before .if1 .taken) in
-    let old : newAt (now (a .xs)) (now (a .ys)) (now (a .kinds)) i s ≡ false = sym (c .before .before .before .before .is-new .ensures) ∙ on .0 in
-    let w = stretch-from (now (a .xs)) (now (a .ys)) (now (a .kinds)) i end s l old (on .1) (c .before .run-end .ensures) in
-    let e = stretch-bytes (now (a .xs)) (now (a .ys)) (now (a .kinds)) ts w left bottom in
-    let vs = points left bottom (now (a .xs)) (now (a .ys)) i (end - i) in
-    let room = writing-room vs _ (loop .inv .1 .1 .1) e in
-    let long = points-long left bottom (now (a .xs)) (now (a .ys)) i (end - i) in
-    ((omega (arith, w .some), (w .inside, loop .inv .1 .1 .0 .1)), omega (arith, room, long))
+    let w = stretch (c .before) in
+    let n = c .before .run-end .result - loop .i in
+    let e = stretch-bytes w (threadsOf (now (a .threads))) left bottom in
+    let room = writing-room (points left bottom (now (a .xs)) (now (a .ys)) (loop .i) n) _ (loop .inv .1 .1 .1) e in
+    ((omega (arith, w .some), (w .inside, loop .inv .1 .1 .0 .1)), omega (arith, room, points-long left bottom (now (a .xs)) (now (a .ys)) (loop .i) n))
 
 sub-moved : tie.Need-sub-moved Inv-loop μ-loop
-sub-moved c =
-    let a = c .before .before .before .before .before .before .before .before .before .before .before .before .before .before .before .before .args in
-    let span = run-span (now (a .xs)) (now (a .ys)) (now (a .kinds)) (c .before .before .before .before .before .before .before .before .before .before .loop .i) (omega arith) (c .before .before .before .before .run-end .ensures) in
-    omega (arith, span .0, span .1)
+sub-moved c = omega (arith, stretch-ends (stretch (c .before .before .before .before)))
 
 mul-moved : tie.Need-mul-moved Inv-loop μ-loop
-mul-moved c =
-    let a = c .before .before .before .before .before .before .before .before .before .before .before .before .before .before .before .before .args in
-    let span = run-span (now (a .xs)) (now (a .ys)) (now (a .kinds)) (c .before .before .before .before .before .before .before .before .before .before .loop .i) (omega arith) (c .before .before .before .before .run-end .ensures) in
-    omega (arith, span .0, span .1, length-commands (now (a .xs)) (now (a .ys)) (now (a .kinds)), c .before .before .before .before .before .before .before .before .before .before .before .before .before .before .before .before .pre .1 .0 .0)
+mul-moved c = omega (arith, stretch-ends (stretch (c .before .before .before .before)), c .before .before .before .before .before .before .before .before .before .before .before .before .before .before .before .before .pre .1 .0 .0)
 
 shared-slice-copy-out-moved : tie.Need-shared-slice-copy-out-moved Inv-loop μ-loop
-shared-slice-copy-out-moved c =
-    let a = c .before .before .before .before .before .before .before .before .before .before .before .before .before .before .before .before .args in
-    let span = run-span (now (a .xs)) (now (a .ys)) (now (a .kinds)) (c .before .before .before .before .before .before .before .before .before .before .loop .i) (omega arith) (c .before .before .before .before .run-end .ensures) in
-    omega (arith, span .0, span .1, length-commands (now (a .xs)) (now (a .ys)) (now (a .kinds)))
+shared-slice-copy-out-moved c = omega (arith, stretch-ends (stretch (c .before .before .before .before)))
 
 sub-moved-2 : tie.Need-sub-moved-2 Inv-loop μ-loop
-sub-moved-2 c =
-    let a = c .before .before .before .before .before .before .before .before .before .before .before .before .before .before .before .before .before .args in
-    let span = run-span (now (a .xs)) (now (a .ys)) (now (a .kinds)) (c .before .before .before .before .before .before .before .before .before .before .before .loop .i) (omega arith) (c .before .before .before .before .before .run-end .ensures) in
-    omega (arith, span .0, span .1)
+sub-moved-2 c = omega (arith, stretch-ends (stretch (c .before .before .before .before .before)))
 
 mul-moved-2 : tie.Need-mul-moved-2 Inv-loop μ-loop
-mul-moved-2 c =
-    let a = c .before .before .before .before .before .before .before .before .before .before .before .before .before .before .before .before .before .args in
-    let span = run-span (now (a .xs)) (now (a .ys)) (now (a .kinds)) (c .before .before .before .before .before .before .before .before .before .before .before .loop .i) (omega arith) (c .before .before .before .before .before .run-end .ensures) in
-    omega (arith, span .0, span .1, length-commands (now (a .xs)) (now (a .ys)) (now (a .kinds)), c .before .before .before .before .before .before .before .before .before .before .before .before .before .before .before .before .before .pre .1 .0 .0)
+mul-moved-2 c = omega (arith, stretch-ends (stretch (c .before .before .before .before .before)), c .before .before .before .before .before .before .before .before .before .before .before .before .before .before .before .before .before .pre .1 .0 .0)
 
 shared-slice-copy-out-moved-2 : tie.Need-shared-slice-copy-out-moved-2 Inv-loop μ-loop
-shared-slice-copy-out-moved-2 c =
-    let a = c .before .before .before .before .before .before .before .before .before .before .before .before .before .before .before .before .before .args in
-    let span = run-span (now (a .xs)) (now (a .ys)) (now (a .kinds)) (c .before .before .before .before .before .before .before .before .before .before .before .loop .i) (omega arith) (c .before .before .before .before .before .run-end .ensures) in
-    omega (arith, span .0, span .1, length-commands (now (a .xs)) (now (a .ys)) (now (a .kinds)))
+shared-slice-copy-out-moved-2 c = omega (arith, stretch-ends (stretch (c .before .before .before .before .before)))
 
 moved-requires : tie.Need-moved-requires Inv-loop μ-loop
 moved-requires c κs = tt
 
 loop-less : tie.Need-loop-less Inv-loop μ-loop
 loop-less c =
-    let a = c .before .before .before .before .before .before .before .before .before .before .before .before .before .before .before .before .before .before .before .args in
-    let span = run-span (now (a .xs)) (now (a .ys)) (now (a .kinds)) (c .before .before .before .before .before .before .before .before .before .before .before .before .before .loop .i) (omega arith) (c .before .before .before .before .before .before .before .run-end .ensures) in
-    omega (arith, span .0, span .1)
+    let w = stretch (c .before .before .before .before .before .before .before) in
+    omega (arith, w .some, w .inside)
 
 loop-again : tie.Need-loop-again Inv-loop μ-loop
 loop-again c =
-    let a = c .before .before .before .before .before .before .before .before .before .before .before .before .before .before .before .before .before .before .before .args in
-    let left = toZ w32 (ofZ w32 (a .left)) in
-    let bottom = toZ w32 (ofZ w32 (a .bottom)) in
-    let ts = threadsOf (now (a .threads)) in
-    let loop = c .before .before .before .before .before .before .before .before .before .before .before .before .before .loop in
-    let i = loop .i in
-    let s = stateOf (loop .s) in
-    let end = c .before .before .before .before .before .before .before .run-end .result in
-    let l : i < length (commands (now (a .xs)) (now (a .ys)) (now (a .kinds))) = omega arith in
-    let on = c .before .before .before .before .before .before .before .before .before .goes-on .ensures (c .before .before .before .before .before .before .before .before .if1 .taken) in
-    let old : newAt (now (a .xs)) (now (a .ys)) (now (a .kinds)) i s ≡ false = sym (c .before .before .before .before .before .before .before .before .before .before .is-new .ensures) ∙ on .0 in
-    let w = stretch-from (now (a .xs)) (now (a .ys)) (now (a .kinds)) i end s l old (on .1) (c .before .before .before .before .before .before .before .run-end .ensures) in
-    let e = stretch-bytes (now (a .xs)) (now (a .ys)) (now (a .kinds)) ts w left bottom in
+    let ended = c .before .before .before .before .before .before .before in
+    let a = ended .before .before .before .before .before .before .before .before .before .before .before .before .args in
+    let loop = ended .before .before .before .before .before .before .loop in
+    let end = ended .run-end .result in
+    let w = stretch ended in
+    let e = stretch-bytes w (threadsOf (now (a .threads))) (toZ w32 (ofZ w32 (a .left))) (toZ w32 (ofZ w32 (a .bottom))) in
     let px = getD (now (a .xs)) (end - 1) (pos 0) in
     let py = getD (now (a .ys)) (end - 1) (pos 0) in
     let x = ret w32 px (c .before .before .moved-arg .given) in
@@ -175,31 +152,22 @@ put-cmd-requires c κs =
     rw (c .before .before .before .is-new .ensures) (l, (loop .inv .1 .1 .0, writing-room vs ws (loop .inv .1 .1 .1) e))
 
 mul-next : tie.Need-mul-next Inv-loop μ-loop
-mul-next c =
-    let a = c .before .before .before .before .before .before .before .before .before .before .before .before .before .before .before .args in
-    omega (arith, length-commands (now (a .xs)) (now (a .ys)) (now (a .kinds)), c .before .before .before .before .before .before .before .before .before .before .before .before .before .before .before .pre .1 .0 .0)
+mul-next c = omega (arith, here (c .before .before .before .before .before .before .before .before))
 
 shared-slice-copy-out-next : tie.Need-shared-slice-copy-out-next Inv-loop μ-loop
-shared-slice-copy-out-next c =
-    let a = c .before .before .before .before .before .before .before .before .before .before .before .before .before .before .before .args in
-    omega (arith, length-commands (now (a .xs)) (now (a .ys)) (now (a .kinds)))
+shared-slice-copy-out-next c = omega (arith, here (c .before .before .before .before .before .before .before .before))
 
 mul-next-2 : tie.Need-mul-next-2 Inv-loop μ-loop
-mul-next-2 c =
-    let a = c .before .before .before .before .before .before .before .before .before .before .before .before .before .before .before .before .args in
-    omega (arith, length-commands (now (a .xs)) (now (a .ys)) (now (a .kinds)), c .before .before .before .before .before .before .before .before .before .before .before .before .before .before .before .before .pre .1 .0 .0)
+mul-next-2 c = omega (arith, here (c .before .before .before .before .before .before .before .before .before))
 
 shared-slice-copy-out-next-2 : tie.Need-shared-slice-copy-out-next-2 Inv-loop μ-loop
-shared-slice-copy-out-next-2 c =
-    let a = c .before .before .before .before .before .before .before .before .before .before .before .before .before .before .before .before .args in
-    omega (arith, length-commands (now (a .xs)) (now (a .ys)) (now (a .kinds)))
+shared-slice-copy-out-next-2 c = omega (arith, here (c .before .before .before .before .before .before .before .before .before))
 
 next-requires : tie.Need-next-requires Inv-loop μ-loop
 next-requires c κs =
-    let s = c .before .before .before .before .before .before .before .before .before .before .before .before .before .before .before .before .before in
-    let a = s .args in
-    let w = c .before .before .before .before .before .before .before .before .before .before .before .loop .inv .1 .0 in
-    (c .before .before .before .before .before .before .before .before .before .before .before .before .before .before .before .before .before .pre .0, omega (arith, length-commands (now (a .xs)) (now (a .ys)) (now (a .kinds)), s .pre .1 .0 .0, w .few-threads, w .few-sections))
+    let inside = c .before .before .before .before .before .before .before .before .before .before in
+    let w = inside .before .loop .inv .1 .0 in
+    (inside .before .before .before .before .before .before .before .pre .0, omega (arith, here inside, w .few-threads, w .few-sections))
 
 add-i : tie.Need-add-i Inv-loop μ-loop
 add-i c = omega arith
