@@ -70,6 +70,17 @@ length-commands (x ∷ xs) [] ks = omega arith
 length-commands (x ∷ xs) (y ∷ ys) [] = omega arith
 length-commands (x ∷ xs) (y ∷ ys) (k ∷ ks) = omega (arith, length-commands xs ys ks)
 
+-- the command at i is in all three slices
+pub record Listed (xs ys : List ℤ) (ks : List ℕ) (i : ℕ) : Type 0 where
+  pub across : i < length xs
+  pub down : i < length ys
+  pub kind : i < length ks
+
+pub listed : {xs ys : List ℤ} {ks : List ℕ} {i n : ℕ} → n ≡ length (commands xs ys ks) → i < n → Listed xs ys ks i
+listed {xs} {ys} {ks} e l =
+    let long = length-commands xs ys ks in
+    record { across = omega arith; down = omega arith; kind = omega arith }
+
 pub commands-at : (xs ys : List ℤ) (ks : List ℕ) (i : ℕ) → i < length (commands xs ys ks) → getD (commands xs ys ks) i noCmd ≡ cmdAt xs ys ks i
 unfolding commands
 commands-at [] ys ks i h = absurd (not-suc-le-zero h)

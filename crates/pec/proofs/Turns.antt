@@ -27,17 +27,6 @@ use Rattle.pec.proofs.Runs.{length-pairs, near-from, run-bytes}
 
 -- ---- what a turn knows
 
--- The command at i is in the lists.
-pub record Listed (xs ys : List ℤ) (ks : List ℕ) (i : ℕ) : Type 0 where
-  pub across : i < length xs
-  pub down : i < length ys
-  pub kind : i < length ks
-
-pub listed : {xs ys : List ℤ} {ks : List ℕ} {i n : ℕ} → n ≡ length (commands xs ys ks) → i < n → Listed xs ys ks i
-listed {xs} {ys} {ks} e l =
-    let long = length-commands xs ys ks in
-    record { across = omega arith; down = omega arith; kind = omega arith }
-
 -- The state is one after a stitch or a colour change, and the place is that of the command before i: from there a run may go.
 pub record Behind (xs ys : List ℤ) (i : ℕ) (s : State) (x y : ℤ) : Type 0 where
   pub going : s .jumped ≡ false

@@ -16,7 +16,7 @@ use Rattle.rules.specs.declared.Color.{Color}
 use Rattle.rules.specs.declared.Op.{Op}
 use Rattle.rules.specs.declared.Op.the-variants.{Stitch, Jump, Trim, ColorChange, End}
 use Rattle.laws.specs.Tests.{by-test}
-use Rattle.laws.specs.Listing.{length-commands, cmdAt, commands-more, list-end}
+use Rattle.laws.specs.Listing.{Listed, listed, cmdAt, commands-more, list-end}
 use Rattle.laws.specs.Lengths.{length-point}
 use Rattle.pes_cmd.specs.States.{movedTo, openLen, cmdLen, logs}
 use Rattle.pes_cmd.proofs.Lengths.{gap, open-long}
@@ -43,16 +43,11 @@ cmd-long left bottom s new End c cs = refl
 -- ---- what the loops know
 
 -- the command at i is in the lists, which are not long
-pub record Listed (xs ys : List ℤ) (ks : List ℕ) (i : ℕ) : Type 0 where
-  pub few : i < 65535
-  pub across : i < length xs
-  pub down : i < length ys
-  pub kind : i < length ks
+abbrev pub FewListed : List ℤ → List ℤ → List ℕ → ℕ → Type 0
+FewListed xs ys ks i = (i < 65535) × Listed xs ys ks i
 
-pub listed : {xs ys : List ℤ} {ks : List ℕ} {i n : ℕ} → n ≡ length (commands xs ys ks) → i < n → length ks ≤ 65535 → Listed xs ys ks i
-listed {xs} {ys} {ks} e l m =
-    let long = length-commands xs ys ks in
-    record { few = omega arith; across = omega arith; down = omega arith; kind = omega arith }
+pub few-listed : {xs ys : List ℤ} {ks : List ℕ} {i n : ℕ} → n ≡ length (commands xs ys ks) → i < n → length ks ≤ 65535 → FewListed xs ys ks i
+few-listed {xs} {ys} {ks} e l m = let h = listed {xs = xs} {ys = ys} {ks = ks} e l in (omega (arith, h .kind), h)
 
 -- how many threads and sections a list has come to before the command at i
 pub record Within (i : ℕ) (s : PesState) : Type 0 where

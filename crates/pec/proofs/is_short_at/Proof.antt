@@ -6,10 +6,10 @@ use denote.Ref.{now}
 use mir.Syntax.{w32}
 use Rattle.laws.specs.Tests.{and-left, and-right}
 use Rattle.laws.specs.Ints.{ret}
+use Rattle.laws.specs.Listing.{Listed, listed}
 use Rattle.pec_cmd.specs.States.{Step}
 use Rattle.pec.specs.Shorts.{stepTo}
 use Rattle.pec.proofs.Runs.{read-step, near-step}
-use Rattle.pec.proofs.Turns.{Listed, listed}
 use borrow.Author.Tests.{eqb-true}
 use borrow.Author.Needs.{needs}
 use Rattle.pec.proofs.is_short_at.Statement.{statement}

@@ -15,10 +15,11 @@ use Rattle.rules.specs.Refusals.{stepsPast, stepTooLong}
 use Rattle.rules.specs.declared.Format.the-variants.{Pec}
 use Rattle.laws.specs.Ints.{ret}
 use Rattle.laws.specs.Buffers.{Writing, writing-start, writing-room, writing-more, writing-done}
+use Rattle.laws.specs.Listing.{Listed, listed}
 use Rattle.pec_cmd.specs.declared.State.{State}
 use Rattle.pec_cmd.specs.States.{stateOf}
 use Rattle.pec.proofs.Stream.{readAt}
-use Rattle.pec.proofs.Turns.{Listed, listed, Behind, Opened, opened-start, Turn, Run, no-bytes, bytesAt, bytesAfter, next-bytes, next-step, next-near, opened-next, opened-still, stepsAt, stillAfter, going-bytes, runBytes, runLeaves, run-ends, run-leaves, length-run, run-reads, run-near, run-behind, looking, turns, turns-run, turns-next}
+use Rattle.pec.proofs.Turns.{Behind, Opened, opened-start, Turn, Run, no-bytes, bytesAt, bytesAfter, next-bytes, next-step, next-near, opened-next, opened-still, stepsAt, stillAfter, going-bytes, runBytes, runLeaves, run-ends, run-leaves, length-run, run-reads, run-near, run-behind, looking, turns, turns-run, turns-next}
 use Rattle.pec.proofs.pec_encode.Statement.{statement}
 use Rattle.pec.proofs.pec_encode.Tie as tie
 

@@ -14,10 +14,11 @@ use Rattle.rules.specs.Pec.{pecStart, pecNext, pecStitches}
 use Rattle.rules.specs.Refusals.{stepsPast, stepTooLong}
 use Rattle.rules.specs.declared.Format.the-variants.{Pec}
 use Rattle.laws.specs.Ints.{ret}
+use Rattle.laws.specs.Listing.{Listed, listed}
 use Rattle.pec_cmd.specs.declared.State.{State}
 use Rattle.pec_cmd.specs.States.{stateOf}
 use Rattle.pec.proofs.Stream.{readAt}
-use Rattle.pec.proofs.Turns.{Listed, listed, Behind, Opened, opened-start, Turn, Run, no-bytes, next-long, next-step, next-near, opened-next, opened-still, going-long, run-ends, run-long, run-near, run-behind, looking, turns, turns-run, turns-next}
+use Rattle.pec.proofs.Turns.{Behind, Opened, opened-start, Turn, Run, no-bytes, next-long, next-step, next-near, opened-next, opened-still, going-long, run-ends, run-long, run-near, run-behind, looking, turns, turns-run, turns-next}
 use Rattle.pec.proofs.pec_len.Statement.{statement}
 use Rattle.pec.proofs.pec_len.Tie as tie
 

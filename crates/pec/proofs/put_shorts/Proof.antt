@@ -10,10 +10,10 @@ use mir.Val.{toZ, ofZ}
 use Rattle.rules.specs.Vocabulary.{bitsOf}
 use Rattle.laws.specs.Ints.{ret}
 use Rattle.laws.specs.Buffers.{Writing, writing-start, writing-room, writing-more, writing-done}
+use Rattle.laws.specs.Listing.{Listed, listed}
 use Rattle.pec.specs.Shorts.{stepTo, pairs}
 use Rattle.pec_cmd.proofs.Values.{short-abs}
 use Rattle.pec.proofs.Runs.{read-step, length-pairs, more-pairs, no-pairs}
-use Rattle.pec.proofs.Turns.{Listed, listed}
 use Rattle.pec.proofs.put_shorts.Statement.{statement}
 use Rattle.pec.proofs.put_shorts.Tie as tie
 

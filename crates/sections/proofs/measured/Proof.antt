@@ -12,7 +12,7 @@ use Rattle.rules.specs.Pes.{PesState}
 use Rattle.laws.specs.Ints.{ret}
 use Rattle.pes_cmd.specs.States.{stateOf, movedTo}
 use Rattle.sections.proofs.Stretch.{Stretch, stretch-from, stretch-ends, stretch-sizing}
-use Rattle.sections.proofs.Steps.{Listed, listed, Within, Sizing, within-start, within-more, within-on, sizing-start, sizing-more, sizing-done, elsewhere, after-moved}
+use Rattle.sections.proofs.Steps.{FewListed, few-listed, Within, Sizing, within-start, within-more, within-on, sizing-start, sizing-more, sizing-done, elsewhere, after-moved}
 use Rattle.sections.proofs.measured.Statement.{statement}
 use Rattle.sections.proofs.measured.Tie as tie
 
@@ -38,8 +38,8 @@ On P head =
     P (now (a .xs)) (now (a .ys)) (now (a .kinds)) (loop .i) (movedTo (stateOf (loop .s)) (loop .inv .1 .1 .0) (loop .inv .1 .1 .1 .0))
 
 -- the command that a turn takes
-here : (c : tie.In-loop Inv-loop μ-loop) → On (λ xs ys ks i s. Listed xs ys ks i) (c .before)
-here c = listed (c .before .loop .inv .0) (c .loop-test .taken) (c .before .before .before .before .before .before .pre .1)
+here : (c : tie.In-loop Inv-loop μ-loop) → On (λ xs ys ks i s. FewListed xs ys ks i) (c .before)
+here c = few-listed (c .before .loop .inv .0) (c .loop-test .taken) (c .before .before .before .before .before .before .pre .1)
 
 -- the run that goes on
 stretch : (c : tie.After-run-end Inv-loop μ-loop) → On (Stretch (c .run-end .result)) (c .before .before .before .before .before .before)

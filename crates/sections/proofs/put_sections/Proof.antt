@@ -18,7 +18,7 @@ use Rattle.sections.specs.Alike.{points}
 use Rattle.sections.specs.States.{placed}
 use Rattle.sections.proofs.Points.{near-at, points-long}
 use Rattle.sections.proofs.Stretch.{Stretch, stretch-from, stretch-ends, stretch-bytes}
-use Rattle.sections.proofs.Steps.{Listed, listed, Within, within-start, within-more, within-on}
+use Rattle.sections.proofs.Steps.{FewListed, few-listed, Within, within-start, within-more, within-on}
 use Rattle.sections.proofs.Stream.{bytesAt, bytesAfter, no-bytes, next-bytes, near-start, near-as, near-after}
 use Rattle.sections.proofs.put_sections.Statement.{statement}
 use Rattle.sections.proofs.put_sections.Tie as tie
@@ -45,8 +45,8 @@ On P head =
     P (now (a .xs)) (now (a .ys)) (now (a .kinds)) (loop .i) (stateOf (loop .s))
 
 -- the command that a turn takes
-here : (c : tie.In-loop Inv-loop μ-loop) → On (λ xs ys ks i s. Listed xs ys ks i) (c .before)
-here c = listed (c .before .loop .inv .0) (c .loop-test .taken) (c .before .before .before .before .before .before .before .pre .1 .0 .0)
+here : (c : tie.In-loop Inv-loop μ-loop) → On (λ xs ys ks i s. FewListed xs ys ks i) (c .before)
+here c = few-listed (c .before .loop .inv .0) (c .loop-test .taken) (c .before .before .before .before .before .before .before .pre .1 .0 .0)
 
 -- the run that goes on
 stretch : (c : tie.After-run-end Inv-loop μ-loop) → On (Stretch (c .run-end .result)) (c .before .before .before .before .before .before)
