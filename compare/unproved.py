@@ -8,8 +8,8 @@ cases of LIST, PART at a time (4,000 if not said), since a run may take ten seco
 program compiled in three ways. Fails at the first part that is not right in each of them, and prints what
 the run said.
 
-A LIST named `longs` has lengths of four bytes; the program's copy is changed to read these and to have
-larger buffers. For it PART is best 12.
+A LIST named `longs` has lengths of four bytes; the copies of the program and of the crate `replay` are changed
+to read these, and the buffers are larger. For it PART is best 12.
 """
 import os
 import shutil
@@ -24,21 +24,26 @@ PROGRAM = "crates/replay_writes"
 
 # What is another in a program whose lengths have four bytes; room for 2 MB.
 LONGER = {
-    "src/bytes.rt": [
-        (", 65536)", ", 2097152)"),
-        ("2 <= rest.len()", "4 <= rest.len()"),
-        ("part(from_file(case), 2,", "part(from_file(case), 4,"),
-        ("word(from_file(case), 0)", "long(from_file(case), 0)"),
+    "replay/src/bytes.rt": [
         (
             "// A number of 16 bits in two",
             "pub fn long(s: &[u8], at: usize) -> usize {\n    word(s, at) + 65536 * word(s, at + 2)\n}\n\n"
             "// A number of 16 bits in two",
         ),
     ],
-    "src/main.rt": [
+    "replay/src/lib.rt": [
         ("use bytes::word;", "use bytes::long;"),
         ("[0u8; 2];", "[0u8; 4];"),
         ("word(&head, 0)", "long(&head, 0)"),
+    ],
+    "replay_writes/src/bytes.rt": [
+        ("use replay::bytes::word;", "use replay::bytes::long;\nuse replay::bytes::word;"),
+        (", 65536)", ", 2097152)"),
+        ("2 <= rest.len()", "4 <= rest.len()"),
+        ("part(from_file(case), 2,", "part(from_file(case), 4,"),
+        ("word(from_file(case), 0)", "long(from_file(case), 0)"),
+    ],
+    "replay_writes/src/main.rt": [
         ("let mut case = [0u8; 65536]", "let mut case = [0u8; 2097152]"),
         ("let mut out = [0u8; 65536]", "let mut out = [0u8; 2097152]"),
     ],
@@ -58,7 +63,7 @@ def copied(folder, longer):
     shutil.copytree(os.path.join(TOP, "crates"), os.path.join(folder, "crates"))
     shutil.copy(os.path.join(TOP, "crates.txt"), folder)
     for name, edits in LONGER.items() if longer else ():
-        path = os.path.join(folder, PROGRAM, name)
+        path = os.path.join(folder, "crates", name)
         text = open(path, encoding="utf-8").read()
         for old, new in edits:
             if old not in text:

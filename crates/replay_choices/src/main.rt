@@ -1,8 +1,8 @@
 // Replays the Rust's answers on colours, threads and bounds (data/choices) and counts what agrees.
-mod bytes;
 mod verdicts;
 
-use libc::STDOUT_FILENO;
+use replay::bytes::byte;
+use replay::bytes::word;
 ghost use Prim.Native.Nat.{_+_, _≤_, _<_};
 ghost use Rattle.replay_choices.specs.Score.{Counted};
 
@@ -17,7 +17,7 @@ fn judged(s: Score, case: &[u8], what: u8) -> Score
     requires { ⌜ s .right + s .wrong < 4294967296 ⌝ }
     ensures { λ r. ⌜ r .right + r .wrong ≤ s .right + s .wrong + 1 ⌝ }
 {
-    if bytes::byte(case, 0) != what {
+    if byte(case, 0) != what {
         return s;
     }
     if verdicts::agrees(case, what) {
@@ -39,7 +39,7 @@ fn replay(cases: &[u8], n: usize, what: u8) -> Score
     let mut s = Score { right: 0, wrong: 0 };
     let mut at = 0;
     while at + 2 <= n {
-        let len = bytes::word(cases, at);
+        let len = word(cases, at);
         let start = at + 2;
         if n - start < len {
             return Score {
@@ -55,12 +55,7 @@ fn replay(cases: &[u8], n: usize, what: u8) -> Score
 }
 
 fn show(name: &[u8], s: Score) {
-    io::write_all(STDOUT_FILENO, name);
-    io::write_all(STDOUT_FILENO, b": ");
-    io::print_decimal(STDOUT_FILENO, s.right as u64);
-    io::write_all(STDOUT_FILENO, b" right, ");
-    io::print_decimal(STDOUT_FILENO, s.wrong as u64);
-    io::write_all(STDOUT_FILENO, b" wrong\n");
+    replay::show(name, s.right as u64, s.wrong as u64, 0);
 }
 
 fn show_all(cases: &[u8], n: usize)

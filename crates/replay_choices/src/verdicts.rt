@@ -1,9 +1,9 @@
 // Whether the port answers a case as the Rust did.
-use super::bytes::byte;
-use super::bytes::color;
-use super::bytes::signed_word;
-use super::bytes::word;
 use geom::Bounds;
+use replay::bytes::byte;
+use replay::bytes::signed_word;
+use replay::bytes::word;
+use rules::Color;
 use rules::Found;
 use rules::Previous;
 use rules::Slot;
@@ -17,6 +17,11 @@ pub fn agrees(case: &[u8], what: u8) -> bool {
         3 => part(case),
         _ => bounds(case),
     }
+}
+
+fn color(case: &[u8], at: usize) -> Color {
+    let three = header::part(case, at, 3);
+    Color(byte(three, 0), byte(three, 1), byte(three, 2))
 }
 
 // Two colours and their distance.

@@ -3,12 +3,14 @@ use super::buffers::cells_stay;
 use super::buffers::mark_cells;
 use super::buffers::mark_places;
 use super::buffers::places_stay;
-use super::bytes::byte;
 use super::bytes::extension;
-use super::bytes::word;
 use super::walk::walked;
 use check::same;
 use header::part;
+use replay::Outcome;
+use replay::bytes::byte;
+use replay::bytes::word;
+use replay::verdict;
 use rules::Counts;
 use rules::ReadAnswer;
 use rules::Refusal;
@@ -117,10 +119,10 @@ fn agrees(case: &[u8], places: &mut [i32], runs: &mut [u32], blocks: &mut [u32])
 }
 
 // The buffers come marked, and are left so.
-pub fn judged(case: &[u8], places: &mut [i32], runs: &mut [u32], blocks: &mut [u32]) -> bool {
+pub fn judged(case: &[u8], places: &mut [i32], runs: &mut [u32], blocks: &mut [u32]) -> Outcome {
     let right = agrees(case, places, runs, blocks);
     mark_places(places);
     mark_cells(runs);
     mark_cells(blocks);
-    right
+    verdict(right)
 }

@@ -1,8 +1,8 @@
 // Goes through a stored answer beside the port's: for each block its number, its colour and its runs, for each run its points.
 use super::bytes::color;
-use super::bytes::word;
 use header::Word;
 use header::i32le;
+use replay::bytes::word;
 
 // How far the two were gone through, and whether they were the same: to a byte of the stored answer, and to a run and a cell of the port's.
 pub struct Walk {

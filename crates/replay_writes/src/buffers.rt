@@ -1,6 +1,6 @@
 // The buffers of a list, and the one that is written to. Each byte of that has a mark before a call, so that a write shows.
-use super::bytes::byte;
-use super::bytes::signed_word;
+use replay::bytes::byte;
+use replay::bytes::signed_word;
 ghost use Prim.Native.Nat.{_≤_, _<_};
 ghost use lib.ListN.{length};
 

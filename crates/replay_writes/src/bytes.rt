@@ -1,26 +1,8 @@
-// Numbers and parts of a case, numbers with the low byte first; what is past the end is 0.
+// Parts of a case.
 use header::part;
+use replay::bytes::byte;
+use replay::bytes::word;
 ghost use Prim.Native.Nat.{_<_};
-
-pub fn byte(s: &[u8], i: usize) -> u8 {
-    if i < s.len() { s[i] } else { 0 }
-}
-
-pub fn word(s: &[u8], at: usize) -> usize
-    ensures { λ r. ⌜ r < 65536 ⌝ }
-{
-    let two = part(s, at, 2);
-    (byte(two, 0) as usize) + 256 * (byte(two, 1) as usize)
-}
-
-// A number of 16 bits in two's complement.
-pub fn signed_word(s: &[u8], at: usize) -> i32 {
-    let v = word(s, at);
-    if v < 32768 {
-        return v as i32;
-    }
-    (v as i32) - 65536
-}
 
 // The name, behind the format and its length.
 pub fn name(case: &[u8]) -> &[u8] {

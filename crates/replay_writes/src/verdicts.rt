@@ -2,7 +2,6 @@
 use super::buffers::mark;
 use super::buffers::stays;
 use super::buffers::unpack;
-use super::bytes::byte;
 use super::bytes::file_len;
 use super::bytes::from_list;
 use super::bytes::is_whole;
@@ -10,35 +9,35 @@ use super::bytes::list_len;
 use super::bytes::name;
 use super::bytes::packed;
 use super::bytes::threads;
-use super::packbits::opens_to;
+use header::part;
+use replay::Outcome;
+use replay::bytes::byte;
+use replay::packbits::opens_to;
+use replay::verdict;
 use rules::WriteAnswer;
 ghost use mathlib.Core.Path.{_≡_};
 ghost use Prim.Native.Nat.{_≤_};
 ghost use lib.ListN.{length};
 ghost use Rattle.replay_writes.specs.Room.{Roomy};
 
-pub enum Outcome {
-    Right,
-    Wrong,
-    Skipped,
-}
-
-// Formats are 0 to 4: PES, PEC, DST, EXP, JEF. A case of another is skipped.
-fn is_format(format: u8) -> bool {
-    format <= 4
+// Formats are 0 to 4.
+fn extension(format: u8) -> [u8; 3]
+    ensures { λ r. ⌜ 3 ≡ length r ⌝ }
+{
+    match format {
+        0 => *b"pes",
+        1 => *b"pec",
+        2 => *b"dst",
+        3 => *b"exp",
+        _ => *b"jef",
+    }
 }
 
 // Writes the list of the case to a buffer that is marked first.
 fn write(case: &[u8], xs: &[i32], ys: &[i32], kinds: &[u8], out: &mut [u8]) -> WriteAnswer {
     mark(out);
-    let format = byte(case, 0);
-    match format {
-        0 => stitch_box::write(b"pes", name(case), xs, ys, kinds, threads(case), out),
-        1 => stitch_box::write(b"pec", name(case), xs, ys, kinds, threads(case), out),
-        2 => stitch_box::write(b"dst", name(case), xs, ys, kinds, threads(case), out),
-        3 => stitch_box::write(b"exp", name(case), xs, ys, kinds, threads(case), out),
-        _ => stitch_box::write(b"jef", name(case), xs, ys, kinds, threads(case), out),
-    }
+    let ext = extension(byte(case, 0));
+    stitch_box::write(&ext, name(case), xs, ys, kinds, threads(case), out)
 }
 
 // The file is that of the case, n bytes, and bytes behind it stay.
@@ -52,7 +51,7 @@ fn writes_same(case: &[u8], n: usize, xs: &[i32], ys: &[i32], kinds: &[u8], out:
     if len != n {
         return false;
     }
-    if !opens_to(packed(case), &out[..n]) {
+    if !opens_to(packed(case), part(out, 0, n)) {
         return false;
     }
     stays(out, n)
@@ -89,6 +88,7 @@ fn agrees(case: &[u8], xs: &[i32], ys: &[i32], kinds: &[u8], out: &mut [u8]) -> 
     refuses(case, xs, ys, kinds, &mut out[..shorter])
 }
 
+// A case of another format is skipped.
 pub fn judged(
     case: &[u8],
     xs: &mut [i32],
@@ -101,13 +101,10 @@ pub fn judged(
     if !is_whole(case) {
         return Outcome::Wrong;
     }
-    if !is_format(byte(case, 0)) {
+    if 4 < byte(case, 0) {
         return Outcome::Skipped;
     }
     let n = list_len(case);
     unpack(from_list(case), n, xs, ys, kinds);
-    if agrees(case, &xs[..n], &ys[..n], &kinds[..n], out) {
-        return Outcome::Right;
-    }
-    Outcome::Wrong
+    verdict(agrees(case, &xs[..n], &ys[..n], &kinds[..n], out))
 }

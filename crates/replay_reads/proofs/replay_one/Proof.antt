@@ -5,29 +5,17 @@ use borrow.Author.Needs.{needs}
 use Rattle.replay_reads.proofs.replay_one.Statement.{statement}
 use Rattle.replay_reads.proofs.replay_one.Tie as tie
 
-slice-aggregate-read-full : tie.Need-slice-aggregate-read-full
-slice-aggregate-read-full c = search needs
+next-requires : tie.Need-next-requires
+next-requires c κs = search needs
 
-read-full-requires : tie.Need-read-full-requires
-read-full-requires c κs = search needs
+same-length : tie.Need-same-length
+same-length c = search needs
 
 returns : tie.Need-returns
 returns c = search needs
 
-slice-aggregate-word : tie.Need-slice-aggregate-word
-slice-aggregate-word c = search needs
-
-word-requires : tie.Need-word-requires
-word-requires c κs = search needs
-
-fetch-requires : tie.Need-fetch-requires
-fetch-requires c κs = search needs
-
-slice-reshare-prefix-group : tie.Need-slice-reshare-prefix-group
-slice-reshare-prefix-group c = search needs
-
-slice-aggregate-group : tie.Need-slice-aggregate-group
-slice-aggregate-group c = simp length-take (omega arith)
+part-requires : tie.Need-part-requires
+part-requires c κs = search needs
 
 group-requires : tie.Need-group-requires
 group-requires c κs = search needs
@@ -35,44 +23,35 @@ group-requires c κs = search needs
 count-requires : tie.Need-count-requires
 count-requires c κs = search needs
 
-same-length : tie.Need-same-length
-same-length c = search needs
+same-length-2 : tie.Need-same-length-2
+same-length-2 c = search needs
 
 returns-2 : tie.Need-returns-2
 returns-2 c = search needs
 
-slice-reshare-prefix-judged : tie.Need-slice-reshare-prefix-judged
-slice-reshare-prefix-judged c = search needs
+slice-relend-prefix-judged : tie.Need-slice-relend-prefix-judged
+slice-relend-prefix-judged c = search needs
 
 slice-aggregate-judged : tie.Need-slice-aggregate-judged
 slice-aggregate-judged c = simp length-take (omega arith)
 
-slice-relend-prefix-judged : tie.Need-slice-relend-prefix-judged
-slice-relend-prefix-judged c = search needs
+slice-relend-prefix-judged-2 : tie.Need-slice-relend-prefix-judged-2
+slice-relend-prefix-judged-2 c = search needs
 
 slice-aggregate-judged-2 : tie.Need-slice-aggregate-judged-2
 slice-aggregate-judged-2 c = simp length-take (omega arith)
 
-slice-relend-prefix-judged-2 : tie.Need-slice-relend-prefix-judged-2
-slice-relend-prefix-judged-2 c = search needs
-
-slice-aggregate-judged-3 : tie.Need-slice-aggregate-judged-3
-slice-aggregate-judged-3 c = simp length-take (omega arith)
-
 slice-relend-prefix-judged-3 : tie.Need-slice-relend-prefix-judged-3
 slice-relend-prefix-judged-3 c = search needs
 
-slice-aggregate-judged-4 : tie.Need-slice-aggregate-judged-4
-slice-aggregate-judged-4 c = simp length-take (omega arith)
+slice-aggregate-judged-3 : tie.Need-slice-aggregate-judged-3
+slice-aggregate-judged-3 c = simp length-take (omega arith)
 
 judged-requires : tie.Need-judged-requires
 judged-requires c κs = search needs
 
 count-requires-2 : tie.Need-count-requires-2
 count-requires-2 c κs = search needs
-
-same-length-2 : tie.Need-same-length-2
-same-length-2 c = search needs
 
 same-length-3 : tie.Need-same-length-3
 same-length-3 c = search needs
@@ -83,6 +62,9 @@ same-length-4 c = search needs
 same-length-5 : tie.Need-same-length-5
 same-length-5 c = search needs
 
+same-length-6 : tie.Need-same-length-6
+same-length-6 c = search needs
+
 returns-3 : tie.Need-returns-3
 returns-3 c = search needs
 
@@ -90,30 +72,24 @@ pub replay-one-spec : {M : Type 1} → statement M
 replay-one-spec =
     tie.close
     (tie.spec
-    slice-aggregate-read-full
-    read-full-requires
+    next-requires
+    same-length
     returns
-    slice-aggregate-word
-    word-requires
-    fetch-requires
-    slice-reshare-prefix-group
-    slice-aggregate-group
+    part-requires
     group-requires
     count-requires
-    same-length
+    same-length-2
     returns-2
-    slice-reshare-prefix-judged
-    slice-aggregate-judged
     slice-relend-prefix-judged
-    slice-aggregate-judged-2
+    slice-aggregate-judged
     slice-relend-prefix-judged-2
-    slice-aggregate-judged-3
+    slice-aggregate-judged-2
     slice-relend-prefix-judged-3
-    slice-aggregate-judged-4
+    slice-aggregate-judged-3
     judged-requires
     count-requires-2
-    same-length-2
     same-length-3
     same-length-4
     same-length-5
+    same-length-6
     returns-3)

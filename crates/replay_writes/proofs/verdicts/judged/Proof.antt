@@ -14,9 +14,6 @@ returns c = search needs
 byte-requires : tie.Need-byte-requires
 byte-requires c κs = search needs
 
-is-format-requires : tie.Need-is-format-requires
-is-format-requires c κs = search needs
-
 returns-2 : tie.Need-returns-2
 returns-2 c = search needs
 
@@ -50,6 +47,9 @@ slice-aggregate-agrees-3 c = simp length-take (omega arith)
 agrees-requires : tie.Need-agrees-requires
 agrees-requires c κs = search needs
 
+verdict-requires : tie.Need-verdict-requires
+verdict-requires c κs = search needs
+
 same-length : tie.Need-same-length
 same-length c = search needs
 
@@ -65,21 +65,6 @@ same-length-4 c = search needs
 returns-3 : tie.Need-returns-3
 returns-3 c = search needs
 
-same-length-5 : tie.Need-same-length-5
-same-length-5 c = search needs
-
-same-length-6 : tie.Need-same-length-6
-same-length-6 c = search needs
-
-same-length-7 : tie.Need-same-length-7
-same-length-7 c = search needs
-
-same-length-8 : tie.Need-same-length-8
-same-length-8 c = search needs
-
-returns-4 : tie.Need-returns-4
-returns-4 c = search needs
-
 pub judged-spec : {M : Type 1} → statement M
 judged-spec =
     tie.close
@@ -87,7 +72,6 @@ judged-spec =
     is-whole-requires
     returns
     byte-requires
-    is-format-requires
     returns-2
     list-len-requires
     from-list-requires
@@ -99,13 +83,9 @@ judged-spec =
     slice-reshare-prefix-agrees-3
     slice-aggregate-agrees-3
     agrees-requires
+    verdict-requires
     same-length
     same-length-2
     same-length-3
     same-length-4
-    returns-3
-    same-length-5
-    same-length-6
-    same-length-7
-    same-length-8
-    returns-4)
+    returns-3)

@@ -1,8 +1,8 @@
 -- `signed_word` is safe. Assumes nothing.
 use Rattle.laws.specs.Ints.{ints}
 use borrow.Author.Needs.{needs}
-use Rattle.replay_writes.proofs.bytes.signed_word.Statement.{statement}
-use Rattle.replay_writes.proofs.bytes.signed_word.Tie as tie
+use Rattle.replay.proofs.bytes.signed_word.Statement.{statement}
+use Rattle.replay.proofs.bytes.signed_word.Tie as tie
 
 word-requires : tie.Need-word-requires
 word-requires c κs = search needs

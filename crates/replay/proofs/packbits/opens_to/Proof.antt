@@ -2,8 +2,8 @@
 use Prim.Native.Nat.{_≤_, _-_}
 use lib.ListN.{length}
 use borrow.Author.Needs.{needs}
-use Rattle.replay_writes.proofs.packbits.opens_to.Statement.{statement}
-use Rattle.replay_writes.proofs.packbits.opens_to.Tie as tie
+use Rattle.replay.proofs.packbits.opens_to.Statement.{statement}
+use Rattle.replay.proofs.packbits.opens_to.Tie as tie
 
 abbrev Inv-loop : tie.InvT-loop
 Inv-loop packed file at₀ to₀ at to = (at ≤ length packed) × (to ≤ length file)

@@ -2,8 +2,8 @@
 use lib.ListN.{length-take}
 use native.Mathlib.Omega.{arith}
 use borrow.Author.Needs.{needs}
-use Rattle.replay_writes.proofs.fetch.Statement.{statement}
-use Rattle.replay_writes.proofs.fetch.Tie as tie
+use Rattle.replay.proofs.fetch.Statement.{statement}
+use Rattle.replay.proofs.fetch.Tie as tie
 
 slice-relend-prefix-read-full : tie.Need-slice-relend-prefix-read-full
 slice-relend-prefix-read-full c = search needs

@@ -2,8 +2,8 @@
 use Prim.Native.Nat.{_-_}
 use lib.ListN.{length}
 use borrow.Author.Needs.{needs}
-use Rattle.replay_writes.proofs.packbits.all_are.Statement.{statement}
-use Rattle.replay_writes.proofs.packbits.all_are.Tie as tie
+use Rattle.replay.proofs.packbits.all_are.Statement.{statement}
+use Rattle.replay.proofs.packbits.all_are.Tie as tie
 
 abbrev Inv-loop : tie.InvT-loop
 Inv-loop s b i₀ i = Unit {0}
