@@ -1,10 +1,15 @@
-/* The stitch box for C: five embroidery formats, written and read.
+/* The stitch box for C: five embroidery formats (PES, PEC, DST, EXP, JEF), written and read.
  *
- * The archive is target/staticlib/libstitch_box_c.a, made by `rt staticlib stitch_box_c`. It uses no heap, keeps nothing between calls and
- * needs no other library. Each slice is a pointer and a length; a slice of length 0 still needs a pointer that is not null. Slices that are
- * written must not overlap any other.
+ * The archive is target/staticlib/libstitch_box_c.a, made by `rt staticlib stitch_box_c`, for x86-64 Linux. It takes memcpy and memset from
+ * the C library and nothing else, uses no heap and keeps nothing between calls. Each slice is a pointer and a length, counted in elements.
+ * Slices and numbers that are written must not overlap any other. A slice of length 0 still needs a pointer that is not null; the data() of
+ * an empty C++ vector may be null, so pass `v.empty() ? &spare : v.data()` with some `spare` of the element type.
  *
- * Places are whole tenths of a millimetre. An extension is "pes", "pec", "dst", "exp" or "jef", in letters of either case. */
+ * Stack: stitch_box_write_cmds takes under 1 MiB, stitch_box_write under 512 KiB (PES and PEC, for lists of 2,048 commands or more; other
+ * formats under 8 KiB), the others under 8 KiB.
+ *
+ * Units: places are whole tenths of a millimetre; x points right and y points down. An extension is "pes", "pec", "dst", "exp" or "jef", in
+ * letters of either case, without a dot and without a final zero. */
 #ifndef STITCH_BOX_H
 #define STITCH_BOX_H
 
@@ -15,33 +20,51 @@
 extern "C" {
 #endif
 
-/* What a call answers. A number comes if its condition holds and no earlier one's does; a refused call changes no cell of any buffer but
- * those that take counts and lengths, which become 0. */
+/* Raised with each change of the interface or of what the functions answer; CHANGELOG.md has what changed. */
+#define STITCH_BOX_VERSION "0.1.0"
+
+/* What a function answers: 0, or the number of a refusal. A number comes if its condition holds and that of none before it in the order of
+ * checking. Reading checks 1, 2, 3, 4, 5, 11, the count byte (4) after 5. Writing checks 1, 6, 7, 8, 9, 10, 11, each over the whole list.
+ * A refused call changes no element of any slice; the counts and lengths that it is given references to become 0. */
 enum {
     STITCH_BOX_DONE = 0,
     STITCH_BOX_UNKNOWN_EXTENSION = 1, /* The extension is none of the five. */
     STITCH_BOX_FILE_TOO_LONG = 2,     /* The file has more than 2,097,152 bytes. */
     STITCH_BOX_NOT_PES = 3,           /* A PES file does not begin #PES. */
-    STITCH_BOX_FILE_TOO_SHORT = 4,    /* The file is shorter than its header: PES 12, DST 512, JEF 4, a PEC part its count byte. */
+    STITCH_BOX_FILE_TOO_SHORT = 4,    /* PES under 12 bytes, DST under 512, JEF under 4, or a PEC part without its count byte. */
     STITCH_BOX_START_BELOW_ZERO = 5,  /* A PES file says that its PEC part starts below 0. */
-    STITCH_BOX_BAD_LIST = 6,          /* Empty, over 65,535 commands, slices of unequal length, a kind over 4, or the end missing, early or repeated. */
+    STITCH_BOX_BAD_LIST = 6,          /* Empty, over 65,535 commands, slices of unequal length, a kind over 4, or the end missing, early or
+                                         repeated. */
     STITCH_BOX_PLACE_OUTSIDE = 7,     /* A place is outside -16,000 to 16,000. */
     STITCH_BOX_TOO_MANY = 8,          /* More than 254 colour changes or 255 threads, or thread bytes not a multiple of three. */
-    STITCH_BOX_MOVED = 9,             /* A trim, colour change or end is not where the command before was. */
+    STITCH_BOX_MOVED = 9,             /* A trim, colour change or end is not where the command before was ((0, 0) if it is the first). */
     STITCH_BOX_STEP_TOO_LONG = 10,    /* A step is past the limit of the format. */
-    STITCH_BOX_BUFFER_TOO_SHORT = 11  /* A buffer is shorter than the answer. */
+    STITCH_BOX_BUFFER_TOO_SHORT = 11  /* A slice to be written is shorter than the answer. */
 };
 
-/* Kinds of commands. The last command, and only that, is an end. */
+/* Kinds of commands. The last command, and only that, is an end. A command's place is absolute. A step is the change of place on one axis
+ * from the command before, the first from (0, 0). Its limits: DST -121 to 121, EXP and JEF -127 to 127, PES and PEC -2,048 to 2,047. */
 enum {
     STITCH_BOX_STITCH = 0,
     STITCH_BOX_JUMP = 1,
-    STITCH_BOX_TRIM = 2,
+    STITCH_BOX_TRIM = 2, /* Leaves no mark in PES, PEC and JEF; three jumps in DST that end where they began. */
     STITCH_BOX_COLOR_CHANGE = 3,
     STITCH_BOX_END = 4
 };
 
-/* Writes a list to the front of out and its length to *length. Threads are three bytes each: red, green, blue. */
+/* A command as one record of 12 bytes. */
+struct stitch_box_cmd {
+    int32_t x;
+    int32_t y;
+    uint8_t kind;
+};
+
+/* Writes a list to the front of out and the file's length to *length; the bytes behind it stay.
+ *
+ * xs, ys and kinds have one element a command. Threads are three bytes each (red, green, blue), one for each colour block in order. What
+ * is stored of a colour is the entry of a chart: in PES and PEC the nearest of 64 that no other thread has yet, in JEF the nearest of 78,
+ * but not that of a different thread just before. DST and EXP store no colours. Of the name PES and PEC keep 8 bytes and DST 16, after
+ * bytes from 128 up (in DST also control characters) are dropped; EXP and JEF store none. */
 uint32_t stitch_box_write(
     const uint8_t *ext, size_t ext_length,
     const uint8_t *name, size_t name_length,
@@ -52,44 +75,55 @@ uint32_t stitch_box_write(
     uint8_t *out, size_t out_length,
     uint64_t *length);
 
-/* Reads a file: places (x then y), the points of each run, and for each block its number, its colour (65,536 red + 256 green + blue) and its
- * runs. counts has four cells: points, runs, blocks, cuts; with another length the call answers 11 and changes nothing. */
+/* stitch_box_write of a list of records. */
+uint32_t stitch_box_write_cmds(
+    const uint8_t *ext, size_t ext_length,
+    const uint8_t *name, size_t name_length,
+    const struct stitch_box_cmd *cmds, size_t cmds_length,
+    const uint8_t *threads, size_t threads_length,
+    uint8_t *out, size_t out_length,
+    uint64_t *length);
+
+/* A length of out that always suffices: no list of so many commands and threads that is accepted has a longer file. With an unknown
+ * extension the answer is 0. Commands past 65,535 and threads past 255, which are refused, do not raise it. For n commands and t threads:
+ * PES 1,094 + 26 n + 228 min(n, 254), PEC 992 + 6 n + 228 min(n, 254), DST 512 + 9 n, EXP 4 n, JEF 124 + 4 n + 8 t. */
+size_t stitch_box_write_bound(const uint8_t *ext, size_t ext_length, size_t commands, size_t threads);
+
+/* No file of any list is longer: the greatest answer of stitch_box_write_bound. */
+#define STITCH_BOX_WRITE_BOUND 1762916
+
+/* Elements of places, runs and blocks that always suffice to read a file of n bytes. */
+#define STITCH_BOX_PLACES_FOR(n) ((n) + 2)
+#define STITCH_BOX_RUNS_FOR(n) ((n) / 2)
+#define STITCH_BOX_BLOCKS_FOR(n) (3 * (n) / 2)
+
+/* Reads a file to the fronts of places, runs and blocks; the elements behind stay.
+ *
+ * A run is a row of points sewn without a jump or colour change (in EXP also a trim) between them. Its first point is where the thread
+ * starts: the place that the first stitch leaves, and no stitch itself. A block is what is sewn in one colour: a colour change opens the
+ * next, and blocks are numbered from 0. Blocks without runs are left out. Cuts are runs less blocks listed: how often the thread is cut
+ * within a colour.
+ *
+ * places: x and y of each point, run after run. runs: the points of each run. blocks: three numbers each, the block's number, its colour
+ * (65,536 red + 256 green + blue) and its runs. The four counts are points, runs, blocks listed and cuts. Filled are two elements of places
+ * for each point, one of runs for each run and three of blocks for each block.
+ *
+ * A block's colour is the one stored for it in the file (PES, PEC and JEF: a chart entry; DST: a TC: line of the header, which
+ * stitch_box_write does not write), or else one of eight default shades, by its number modulo 8. */
 uint32_t stitch_box_read(
     const uint8_t *ext, size_t ext_length,
     const uint8_t *file, size_t file_length,
     int32_t *places, size_t places_length,
     uint32_t *runs, size_t runs_length,
     uint32_t *blocks, size_t blocks_length,
-    uint32_t *counts, size_t counts_length);
+    uint32_t *point_count, uint32_t *run_count, uint32_t *block_count, uint32_t *cut_count);
 
-/* The place of a file's label in the file: place has two cells, start and length; with another length the call answers 11 and changes
- * nothing. An empty label has length 0. The call meets every refusal of reading but 11. */
+/* Where a file's label stands: *length bytes of the file from *start on. The label of EXP and JEF is empty. The call meets every refusal of
+ * reading but 11. */
 uint32_t stitch_box_label(
     const uint8_t *ext, size_t ext_length,
     const uint8_t *file, size_t file_length,
-    uint64_t *place, size_t place_length);
-
-/* A command as one record. */
-struct stitch_box_cmd {
-    int32_t x;
-    int32_t y;
-    uint8_t kind;
-};
-
-/* stitch_box_write of a list of records. xs, ys and kinds are lent for its numbers, at least as many cells each as there are commands; size has
- * one cell, for the length. With slices too short, or another length of size, the call answers 11 and looks at nothing else. Else xs, ys and
- * kinds hold the list's numbers afterwards, also where the list is refused. The archive is target/staticlib/libcmds.a, made by
- * `rt staticlib cmds`. */
-uint32_t stitch_box_write_cmds(
-    const uint8_t *ext, size_t ext_length,
-    const uint8_t *name, size_t name_length,
-    const struct stitch_box_cmd *cmds, size_t cmds_length,
-    const uint8_t *threads, size_t threads_length,
-    int32_t *xs, size_t xs_length,
-    int32_t *ys, size_t ys_length,
-    uint8_t *kinds, size_t kinds_length,
-    uint8_t *out, size_t out_length,
-    uint64_t *size, size_t size_length);
+    uint64_t *start, uint64_t *length);
 
 #ifdef __cplusplus
 }

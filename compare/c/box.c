@@ -1,31 +1,198 @@
-/* Writes a square in each format, reads it back and prints what came back. */
+/* Writes a square in each format by both writes, reads it back, asks for its label and prints what came back; then sees to it that refused
+ * calls answer their number and change no buffer. Valid C99 and C++. The status is 1 if anything is wrong. */
 #include "../../include/stitch_box.h"
 #include <stdio.h>
+#include <string.h>
+
+/* A record is 12 bytes with x at 0, y at 4 and kind at 8; else one of these lengths is negative. */
+typedef char record_has_12_bytes[sizeof(struct stitch_box_cmd) == 12 ? 1 : -1];
+typedef char x_is_at_0[offsetof(struct stitch_box_cmd, x) == 0 ? 1 : -1];
+typedef char y_is_at_4[offsetof(struct stitch_box_cmd, y) == 4 ? 1 : -1];
+typedef char kind_is_at_8[offsetof(struct stitch_box_cmd, kind) == 8 ? 1 : -1];
+
+/* Buffers have ROOM elements, of which a call gets a part, and their bytes are set to MARK before each call. */
+enum { COMMANDS = 6, TOO_MANY = 65536, ROOM = 4096, MARK = 0xA5 };
+
+static const char *const exts[] = {"pes", "pec", "dst", "exp", "jef"};
+static const char name[] = "square";
+static const uint8_t threads[] = {200, 40, 40};
+
+/* The square as slices and as records. */
+static const int32_t xs[COMMANDS] = {10, 60, 60, 10, 10, 10};
+static const int32_t ys[COMMANDS] = {10, 10, 60, 60, 10, 10};
+static const uint8_t kinds[COMMANDS] = {
+    STITCH_BOX_JUMP, STITCH_BOX_STITCH, STITCH_BOX_STITCH, STITCH_BOX_STITCH, STITCH_BOX_STITCH, STITCH_BOX_END,
+};
+static const struct stitch_box_cmd square[COMMANDS] = {
+    {10, 10, STITCH_BOX_JUMP},   {60, 10, STITCH_BOX_STITCH}, {60, 60, STITCH_BOX_STITCH},
+    {10, 60, STITCH_BOX_STITCH}, {10, 10, STITCH_BOX_STITCH}, {10, 10, STITCH_BOX_END},
+};
+
+/* Stitches on the spot and an end: one more than may be. */
+static struct stitch_box_cmd many[TOO_MANY];
+
+static uint8_t file[ROOM], out[ROOM];
+static int32_t places[ROOM];
+static uint32_t runs[ROOM], blocks[ROOM];
+static uint32_t point_count, run_count, block_count, cut_count;
+static int wrong;
+
+/* Says what is wrong, unless it is right. */
+static int see(int right, const char *ext, const char *what)
+{
+    if (!right) {
+        printf("%s: wrong: %s\n", ext, what);
+        wrong = 1;
+    }
+    return right;
+}
+
+static const uint8_t *bytes(const char *text)
+{
+    return (const uint8_t *)text;
+}
+
+/* Whether the bytes of a buffer are marked from this one on. */
+static int marked(const void *buffer, size_t from, size_t size)
+{
+    const uint8_t *cells = (const uint8_t *)buffer;
+    while (from < size && cells[from] == MARK)
+        from++;
+    return from >= size;
+}
+
+/* Bytes that suffice for the square. */
+static size_t bound(const char *ext)
+{
+    return stitch_box_write_bound(bytes(ext), strlen(ext), COMMANDS, 1);
+}
+
+/* Writes the square by its slices, to so many bytes. */
+static uint32_t write_slices(const char *ext, size_t room, uint64_t *length)
+{
+    memset(out, MARK, sizeof out);
+    *length = 7;
+    return stitch_box_write(bytes(ext), strlen(ext), bytes(name), strlen(name), xs, COMMANDS, ys, COMMANDS, kinds, COMMANDS,
+                            threads, sizeof threads, out, room, length);
+}
+
+/* Writes so many records, to so many bytes. */
+static uint32_t write_records(const char *ext, const struct stitch_box_cmd *cmds, size_t count, size_t room, uint64_t *length)
+{
+    memset(out, MARK, sizeof out);
+    *length = 7;
+    return stitch_box_write_cmds(bytes(ext), strlen(ext), bytes(name), strlen(name), cmds, count, threads, sizeof threads,
+                                 out, room, length);
+}
+
+/* Whether a write answers this number, changes nothing and tells a length of 0. */
+static int refused(uint32_t number, uint32_t wanted, const uint64_t *length)
+{
+    return number == wanted && *length == 0 && marked(out, 0, sizeof out);
+}
+
+/* Reads the front of the file; so many elements of places, and enough of runs and blocks. */
+static uint32_t read_file(const char *ext, size_t length, size_t room)
+{
+    memset(places, MARK, sizeof places);
+    memset(runs, MARK, sizeof runs);
+    memset(blocks, MARK, sizeof blocks);
+    point_count = run_count = block_count = cut_count = 7;
+    return stitch_box_read(bytes(ext), strlen(ext), file, length, places, room, runs, STITCH_BOX_RUNS_FOR(length),
+                           blocks, STITCH_BOX_BLOCKS_FOR(length), &point_count, &run_count, &block_count, &cut_count);
+}
+
+/* Whether a read has changed nothing and tells counts of 0. */
+static int nothing_read(void)
+{
+    return marked(places, 0, sizeof places) && marked(runs, 0, sizeof runs) && marked(blocks, 0, sizeof blocks) &&
+           point_count == 0 && run_count == 0 && block_count == 0 && cut_count == 0;
+}
+
+/* Writes the square by both writes and keeps its file; the file's length, or 0 if something is wrong. */
+static size_t write_square(const char *ext)
+{
+    uint64_t length, again;
+    if (!see(0 < bound(ext) && bound(ext) <= ROOM, ext, "the bound"))
+        return 0;
+    see(write_slices(ext, bound(ext), &length) == STITCH_BOX_DONE, ext, "the write");
+    if (!see(0 < length && length <= bound(ext), ext, "the length"))
+        return 0;
+    see(marked(out, (size_t)length, sizeof out), ext, "bytes behind the file");
+    memcpy(file, out, sizeof file);
+    see(write_records(ext, square, COMMANDS, bound(ext), &again) == STITCH_BOX_DONE, ext, "the write of records");
+    see(again == length && memcmp(file, out, sizeof file) == 0, ext, "the file of records");
+    return (size_t)length;
+}
+
+/* Reads the square. */
+static void read_square(const char *ext, size_t length)
+{
+    see(read_file(ext, length, STITCH_BOX_PLACES_FOR(length)) == STITCH_BOX_DONE, ext, "the read");
+    see(point_count == 5 && run_count == 1 && block_count == 1 && cut_count == 0, ext, "the counts");
+    for (size_t at = 0; at < 5; at++)
+        see(places[2 * at] == xs[at] && places[2 * at + 1] == ys[at], ext, "a place");
+    see(runs[0] == 5 && blocks[0] == 0 && blocks[2] == 1, ext, "the run and the block");
+    see(marked(places, 10 * sizeof *places, sizeof places), ext, "elements behind the places");
+    see(marked(runs, sizeof *runs, sizeof runs), ext, "elements behind the runs");
+    see(marked(blocks, 3 * sizeof *blocks, sizeof blocks), ext, "elements behind the blocks");
+}
+
+/* Asks for the label, which is the name or empty, and prints all that came back. */
+static void label_square(const char *ext, size_t length)
+{
+    const char *label = strcmp(ext, "exp") != 0 && strcmp(ext, "jef") != 0 ? name : "";
+    uint64_t start = 7, label_length = 7;
+    see(stitch_box_label(bytes(ext), strlen(ext), file, length, &start, &label_length) == STITCH_BOX_DONE, ext, "the label");
+    if (!see(label_length == strlen(label) && start <= length && label_length <= length - start, ext, "the label's place"))
+        return;
+    see(memcmp(file + start, label, strlen(label)) == 0, ext, "the label's bytes");
+    printf("%s: %lu bytes of at most %lu; %lu points, %lu run, %lu block, %lu cuts; label [%.*s]\n", ext, (unsigned long)length,
+           (unsigned long)bound(ext), (unsigned long)point_count, (unsigned long)run_count, (unsigned long)block_count,
+           (unsigned long)cut_count, (int)label_length, (const char *)file + start);
+}
+
+/* A byte or an element too few; records of which there are too many, and one fewer, for which the buffer is too short. */
+static void refuse(const char *ext, size_t length)
+{
+    uint64_t told;
+    see(refused(write_slices(ext, length - 1, &told), STITCH_BOX_BUFFER_TOO_SHORT, &told), ext, "a byte too few");
+    see(refused(write_records(ext, square, COMMANDS, length - 1, &told), STITCH_BOX_BUFFER_TOO_SHORT, &told), ext,
+        "a byte too few for records");
+    see(refused(write_records(ext, many, TOO_MANY, ROOM, &told), STITCH_BOX_BAD_LIST, &told), ext, "65,536 records");
+    see(refused(write_records(ext, many + 1, TOO_MANY - 1, ROOM, &told), STITCH_BOX_BUFFER_TOO_SHORT, &told), ext,
+        "65,535 records");
+    see(read_file(ext, length, 9) == STITCH_BOX_BUFFER_TOO_SHORT && nothing_read(), ext, "an element of places too few");
+}
+
+/* Each function under an unknown extension. */
+static void refuse_extension(const char *ext)
+{
+    uint64_t start = 7, told;
+    see(refused(write_slices(ext, ROOM, &told), STITCH_BOX_UNKNOWN_EXTENSION, &told), ext, "the write");
+    see(refused(write_records(ext, square, COMMANDS, ROOM, &told), STITCH_BOX_UNKNOWN_EXTENSION, &told), ext,
+        "the write of records");
+    see(bound(ext) == 0, ext, "the bound");
+    see(read_file(ext, 100, STITCH_BOX_PLACES_FOR(100)) == STITCH_BOX_UNKNOWN_EXTENSION && nothing_read(), ext, "the read");
+    told = 7;
+    see(stitch_box_label(bytes(ext), strlen(ext), file, 100, &start, &told) == STITCH_BOX_UNKNOWN_EXTENSION, ext, "the label");
+    see(start == 0 && told == 0, ext, "the label's place");
+}
 
 int main(void)
 {
-    static const char *exts[] = {"pes", "pec", "dst", "exp", "jef"};
-    static const int32_t xs[] = {10, 60, 60, 10, 10, 10};
-    static const int32_t ys[] = {10, 10, 60, 60, 10, 10};
-    static const uint8_t kinds[] = {STITCH_BOX_JUMP, STITCH_BOX_STITCH, STITCH_BOX_STITCH, STITCH_BOX_STITCH, STITCH_BOX_STITCH, STITCH_BOX_END};
-    static const uint8_t threads[] = {200, 40, 40};
-    static uint8_t file[4096];
-    static int32_t places[64];
-    static uint32_t runs[16], blocks[16], counts[4];
-    static uint64_t place[2];
-    int wrong = 0;
-    for (size_t f = 0; f < 5; f++) {
-        const uint8_t *ext = (const uint8_t *)exts[f];
-        uint64_t length = 0;
-        uint32_t w = stitch_box_write(ext, 3, (const uint8_t *)"square", 6, xs, 6, ys, 6, kinds, 6, threads, 3, file, sizeof file, &length);
-        uint32_t r = stitch_box_read(ext, 3, file, (size_t)length, places, 64, runs, 16, blocks, 16, counts, 4);
-        uint32_t l = stitch_box_label(ext, 3, file, (size_t)length, place, 2);
-        printf("%s: write %u, %llu bytes; read %u, %u points, %u runs, %u blocks, %u cuts; label [%.*s]\n", exts[f], w, (unsigned long long)length, r,
-               counts[0], counts[1], counts[2], counts[3], (int)place[1], (const char *)file + place[0]);
-        wrong += w != 0 || r != 0 || l != 0 || counts[1] != 1 || counts[2] != 1;
+    many[TOO_MANY - 1].kind = STITCH_BOX_END;
+    for (size_t f = 0; f < sizeof exts / sizeof *exts; f++) {
+        size_t length = write_square(exts[f]);
+        if (length == 0)
+            continue;
+        read_square(exts[f], length);
+        label_square(exts[f], length);
+        refuse(exts[f], length);
     }
-    uint64_t length = 7;
-    uint32_t w = stitch_box_write((const uint8_t *)"txt", 3, (const uint8_t *)"", 0, xs, 6, ys, 6, kinds, 6, threads, 3, file, sizeof file, &length);
-    printf("txt: write %u, %llu bytes\n", w, (unsigned long long)length);
-    return wrong != 0 || w != STITCH_BOX_UNKNOWN_EXTENSION || length != 0;
+    see(stitch_box_write_bound(bytes("pes"), 3, SIZE_MAX, SIZE_MAX) == STITCH_BOX_WRITE_BOUND, "pes", "the greatest bound");
+    refuse_extension("txt");
+    if (!wrong)
+        printf("refused as they should be: buffers that are too short, 65,536 records, an unknown extension\n");
+    return wrong;
 }

@@ -15,7 +15,13 @@ pub struct Asked {
 }
 
 /// About as many commands as a list may have.
-const COUNTS: [usize; 7] = [65_536, 65_535, 65_534, 65_537, 131_072, 65_535, 65_536];
+const COUNTS: [usize; 7] = [65_536, 65_535, 65_534, 65_537, 131_072, 65_535, 70_000];
+
+/// More commands than a list may have.
+const TOO_MANY: [usize; 4] = [65_536, 65_537, 70_000, 131_072];
+
+/// One turn of so many has such a list.
+const SELDOM: usize = 1_000;
 
 /// The boundary lists of each format, and the long ones.
 pub struct Boundary {
@@ -35,10 +41,14 @@ impl Boundary {
 
     /// The next to ask, the formats by turns: of each format in turn a list
     /// without faults, boundary ones first, and one with faults; now and then a
-    /// dense design instead of the latter.
+    /// dense design or a list of too many commands instead of the latter.
     pub fn next(&self, at: usize, random: &mut Random) -> Asked {
         let (which, turn) = (at % Format::ALL.len(), at / Format::ALL.len());
         let (format, lists) = (Format::ALL[which], &self.lists[which]);
+        if turn % SELDOM == SELDOM - 1 {
+            let list = base(format, lists, random);
+            return too_many(asked(format, &list, random), which, turn / SELDOM);
+        }
         if turn % 64 == 63 && matches!(format, Format::Pes | Format::Pec) {
             let script = pictures::dense(format, random);
             return asked(format, &lists::list("dense", &script, random), random);
@@ -71,6 +81,23 @@ impl Boundary {
             }
         }
     }
+}
+
+/// A list of too many commands: each count in each format by turns, now and then
+/// under an extension that is none. Some have an end besides, so that they are in
+/// order if only the low bits of their count are taken, or only so many commands
+/// as may be.
+fn too_many(mut asked: Asked, which: usize, turn: usize) -> Asked {
+    let count = TOO_MANY[turn % TOO_MANY.len()];
+    stretch(&mut asked.list, count);
+    let front = [count, count % 65_536, 65_535][(which + turn) % 3];
+    if front > 0 {
+        asked.list.kinds[front - 1] = lists::END;
+    }
+    if (which + turn) % 5 == 4 {
+        asked.ext.push(b's');
+    }
+    asked
 }
 
 /// Up to three faults in a list.

@@ -9,7 +9,6 @@ const GUARD: usize = 4;
 #[derive(Default)]
 pub struct Lent<T> {
     cells: Vec<T>,
-    length: usize,
     mark: T,
 }
 
@@ -18,13 +17,18 @@ impl<T: Copy + PartialEq + Display> Lent<T> {
     pub fn lend(&mut self, length: usize, mark: T) -> &mut [T] {
         self.cells.clear();
         self.cells.resize(length + 2 * GUARD, mark);
-        (self.length, self.mark) = (length, mark);
+        self.mark = mark;
         &mut self.cells[GUARD..GUARD + length]
     }
 
-    /// The cells that were lent.
-    pub fn cells(&self) -> &[T] {
-        &self.cells[GUARD..GUARD + self.length]
+    /// One cell, marked.
+    pub fn lend_one(&mut self, mark: T) -> &mut T {
+        &mut self.lend(1, mark)[0]
+    }
+
+    /// The one cell that was lent.
+    pub fn one(&self) -> T {
+        self.cells[GUARD]
     }
 
     /// The first cell that is not as wanted: this answer at the front, and marks

@@ -18,6 +18,7 @@ pub mod answers;
 pub mod asked;
 pub mod bench;
 pub mod borders;
+pub mod bounds;
 pub mod bytes;
 pub mod design;
 pub mod faults;

@@ -14,8 +14,8 @@ fn counted(call: &mut dyn FnMut()) {
 }
 
 /// Makes one call so many times, and once before: of a design (`plain`, `mix`), a
-/// format, a call (`read-just`, `read-ample`, `write`) and a side (`rust`, `port`).
-/// Prints the count of stitches.
+/// format, a call (`read-just`, `read-ample`, `write`, `write-cmds`) and a side
+/// (`rust`, `port`; the last call has only the latter). Prints the count of stitches.
 pub fn run(design: &str, ext: &str, call: &str, side: &str, count: u64) -> io::Result<bool> {
     let unknown = |word: &str| io::Error::other(format!("{word} is not known"));
     let design = DESIGNS.iter().find(|known| known.name == design);
@@ -42,6 +42,9 @@ pub fn run(design: &str, ext: &str, call: &str, side: &str, count: u64) -> io::R
             ("write", "rust") => &mut || written = Some(writes.rust()),
             ("write", "port") => &mut || {
                 writes.port();
+            },
+            ("write-cmds", "port") => &mut || {
+                writes.port_cmds();
             },
             _ => return Err(unknown("the call or the side")),
         };

@@ -6,6 +6,8 @@ use std::io;
 
 #[cfg(stitch_box)]
 mod archive {
+    use super::Cmd;
+
     unsafe extern "C" {
         /// Each slice is a pointer and a length.
         pub fn stitch_box_read(
@@ -19,8 +21,10 @@ mod archive {
             runs_length: usize,
             blocks: *mut u32,
             blocks_length: usize,
-            counts: *mut u32,
-            counts_length: usize,
+            point_count: *mut u32,
+            run_count: *mut u32,
+            block_count: *mut u32,
+            cut_count: *mut u32,
         ) -> u32;
 
         pub fn stitch_box_label(
@@ -28,8 +32,8 @@ mod archive {
             ext_length: usize,
             file: *const u8,
             file_length: usize,
-            place: *mut u64,
-            place_length: usize,
+            start: *mut u64,
+            length: *mut u64,
         ) -> u32;
 
         pub fn stitch_box_write(
@@ -49,8 +53,41 @@ mod archive {
             out_length: usize,
             length: *mut u64,
         ) -> u32;
+
+        pub fn stitch_box_write_cmds(
+            ext: *const u8,
+            ext_length: usize,
+            name: *const u8,
+            name_length: usize,
+            cmds: *const Cmd,
+            cmds_length: usize,
+            threads: *const u8,
+            threads_length: usize,
+            out: *mut u8,
+            out_length: usize,
+            length: *mut u64,
+        ) -> u32;
+
+        pub fn stitch_box_write_bound(
+            ext: *const u8,
+            ext_length: usize,
+            commands: usize,
+            threads: usize,
+        ) -> usize;
     }
 }
+
+/// A command as a record; its padding has a name, so that it can be set.
+#[repr(C)]
+#[derive(Clone, Copy)]
+pub struct Cmd {
+    pub x: i32,
+    pub y: i32,
+    pub kind: u8,
+    pub padding: [u8; 3],
+}
+
+const _: () = assert!(size_of::<Cmd>() == 12 && align_of::<Cmd>() == 4);
 
 /// A list as the port takes it.
 #[derive(Clone)]
@@ -72,14 +109,31 @@ impl Lists {
             threads: list.threads.concat(),
         }
     }
+
+    /// The commands as records with junk in their padding; none if the slices are
+    /// of unequal length.
+    pub fn records(&self, junk: u8) -> Option<Vec<Cmd>> {
+        let count = self.kinds.len();
+        if [self.xs.len(), self.ys.len()] != [count; 2] {
+            return None;
+        }
+        let padding = [junk; 3];
+        let places = self.xs.iter().zip(&self.ys);
+        let record = |((&x, &y), &kind)| Cmd {
+            x,
+            y,
+            kind,
+            padding,
+        };
+        Some(places.zip(&self.kinds).map(record).collect())
+    }
 }
 
-/// Writes a list: 0 or the number of the refusal, and the length.
+/// Writes a list: 0 or the number of the refusal.
 #[cfg(stitch_box)]
-pub fn write(ext: &[u8], list: &Lists, out: &mut [u8]) -> (u32, u64) {
-    let mut length = u64::MAX;
+pub fn write(ext: &[u8], list: &Lists, out: &mut [u8], length: &mut u64) -> u32 {
     // SAFETY: each pointer comes with the length of its slice.
-    let number = unsafe {
+    unsafe {
         archive::stitch_box_write(
             ext.as_ptr(),
             ext.len(),
@@ -95,14 +149,58 @@ pub fn write(ext: &[u8], list: &Lists, out: &mut [u8]) -> (u32, u64) {
             list.threads.len(),
             out.as_mut_ptr(),
             out.len(),
-            &mut length,
+            length,
         )
-    };
-    (number, length)
+    }
 }
 
 #[cfg(not(stitch_box))]
-pub fn write(_: &[u8], _: &Lists, _: &mut [u8]) -> (u32, u64) {
+pub fn write(_: &[u8], _: &Lists, _: &mut [u8], _: &mut u64) -> u32 {
+    panic!("{MISSING}")
+}
+
+/// Writes a list of records: 0 or the number of the refusal.
+#[cfg(stitch_box)]
+pub fn write_cmds(
+    ext: &[u8],
+    name: &[u8],
+    cmds: &[Cmd],
+    threads: &[u8],
+    out: &mut [u8],
+    length: &mut u64,
+) -> u32 {
+    // SAFETY: each pointer comes with the length of its slice.
+    unsafe {
+        archive::stitch_box_write_cmds(
+            ext.as_ptr(),
+            ext.len(),
+            name.as_ptr(),
+            name.len(),
+            cmds.as_ptr(),
+            cmds.len(),
+            threads.as_ptr(),
+            threads.len(),
+            out.as_mut_ptr(),
+            out.len(),
+            length,
+        )
+    }
+}
+
+#[cfg(not(stitch_box))]
+pub fn write_cmds(_: &[u8], _: &[u8], _: &[Cmd], _: &[u8], _: &mut [u8], _: &mut u64) -> u32 {
+    panic!("{MISSING}")
+}
+
+/// A length that suffices for the file of so many commands and threads.
+#[cfg(stitch_box)]
+pub fn write_bound(ext: &[u8], commands: usize, threads: usize) -> usize {
+    // SAFETY: the pointer comes with the length of its slice.
+    unsafe { archive::stitch_box_write_bound(ext.as_ptr(), ext.len(), commands, threads) }
+}
+
+#[cfg(not(stitch_box))]
+pub fn write_bound(_: &[u8], _: usize, _: usize) -> usize {
     panic!("{MISSING}")
 }
 
@@ -115,8 +213,9 @@ pub fn read(
     places: &mut [i32],
     runs: &mut [u32],
     blocks: &mut [u32],
-    counts: &mut [u32],
+    counts: [&mut u32; 4],
 ) -> u32 {
+    let [points, run_count, block_count, cuts] = counts;
     // SAFETY: each pointer comes with the length of its slice.
     unsafe {
         archive::stitch_box_read(
@@ -130,21 +229,29 @@ pub fn read(
             runs.len(),
             blocks.as_mut_ptr(),
             blocks.len(),
-            counts.as_mut_ptr(),
-            counts.len(),
+            points,
+            run_count,
+            block_count,
+            cuts,
         )
     }
 }
 
 #[cfg(not(stitch_box))]
-pub fn read(_: &[u8], _: &[u8], _: &mut [i32], _: &mut [u32], _: &mut [u32], _: &mut [u32]) -> u32 {
+pub fn read(
+    _: &[u8],
+    _: &[u8],
+    _: &mut [i32],
+    _: &mut [u32],
+    _: &mut [u32],
+    _: [&mut u32; 4],
+) -> u32 {
     panic!("{MISSING}")
 }
 
-/// Finds a file's label: 0 or the number of the refusal. The place is start and
-/// length.
+/// Finds a file's label: 0 or the number of the refusal.
 #[cfg(stitch_box)]
-pub fn label(ext: &[u8], file: &[u8], place: &mut [u64]) -> u32 {
+pub fn label(ext: &[u8], file: &[u8], start: &mut u64, length: &mut u64) -> u32 {
     // SAFETY: each pointer comes with the length of its slice.
     unsafe {
         archive::stitch_box_label(
@@ -152,14 +259,14 @@ pub fn label(ext: &[u8], file: &[u8], place: &mut [u64]) -> u32 {
             ext.len(),
             file.as_ptr(),
             file.len(),
-            place.as_mut_ptr(),
-            place.len(),
+            start,
+            length,
         )
     }
 }
 
 #[cfg(not(stitch_box))]
-pub fn label(_: &[u8], _: &[u8], _: &mut [u64]) -> u32 {
+pub fn label(_: &[u8], _: &[u8], _: &mut u64, _: &mut u64) -> u32 {
     panic!("{MISSING}")
 }
 

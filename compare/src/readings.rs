@@ -5,13 +5,16 @@ use crate::files::File;
 use crate::lent::Lent;
 use crate::oracle::Answer;
 use crate::port::{self, Cells};
-use crate::tally::{Calls, Told};
+use crate::tally::{Calls, Function, Told};
 
 /// Cells are set to one of these before a call; no place and no count is.
 const MARKS: [u32; 2] = [0xA5A5_A5A5, 0x5A5A_5A5A];
 
-/// The lengths of the buffers lent: places, runs, blocks, counts.
-type Lengths = [usize; 4];
+/// The counts by name.
+const COUNTS: [&str; 4] = ["point count", "run count", "block count", "cut count"];
+
+/// The lengths of the buffers lent: places, runs, blocks.
+type Lengths = [usize; 3];
 
 /// Buffers for the calls.
 #[derive(Default)]
@@ -19,8 +22,9 @@ pub struct Readings {
     places: Lent<i32>,
     runs: Lent<u32>,
     blocks: Lent<u32>,
-    counts: Lent<u32>,
-    place: Lent<u64>,
+    counts: [Lent<u32>; 4],
+    start: Lent<u64>,
+    length: Lent<u64>,
 }
 
 impl Readings {
@@ -33,19 +37,12 @@ impl Readings {
             let wanted = number(&cells, lengths);
             let found = self.read(file, &cells, wanted, lengths, MARKS[at % 2]);
             let found = found.map(|what| format!("buffers of {lengths:?} cells: {what}"));
-            calls.take(wanted, found);
+            calls.take(Function::Read, Some(wanted), found);
         }
         let label = answer.as_ref().map(|reading| &reading.label[..]);
         let label = label.map_err(|&number| number);
-        for length in [2, [0, 1, 3, 4][file.bytes.len() % 4]] {
-            let wanted = match length {
-                2 => label.err().unwrap_or(0),
-                _ => 11,
-            };
-            let found = self.label(file, in_ascii, label, wanted, length);
-            let found = found.map(|what| format!("label, place of {length} cells: {what}"));
-            calls.take(wanted, found);
-        }
+        let found = self.label(file, in_ascii, label);
+        calls.take(Function::Label, Some(label.err().unwrap_or(0)), found);
         let mut told = Told {
             number: cells.as_ref().err().copied().unwrap_or(0),
             length: file.bytes.len(),
@@ -73,7 +70,7 @@ impl Readings {
             self.places.lend(lengths[0], mark as i32),
             self.runs.lend(lengths[1], mark),
             self.blocks.lend(lengths[2], mark),
-            self.counts.lend(lengths[3], mark),
+            self.counts.each_mut().map(|count| count.lend_one(mark)),
         );
         if number != u32::from(wanted) {
             return Some(format!("number {number}, wanted {wanted}"));
@@ -86,41 +83,43 @@ impl Readings {
             }
             _ => ([0; 4], empty),
         };
-        let counts = if lengths[3] == 4 { &counts[..] } else { &[] };
-        let found = self.counts.difference("counts", counts);
-        found
+        self.counts(counts)
             .or_else(|| self.blocks.difference("blocks", blocks))
             .or_else(|| self.runs.difference("runs", runs))
             .or_else(|| self.places.difference("places", places))
     }
 
-    /// What differs in one call for the label.
-    fn label(
-        &mut self,
-        file: &File,
-        in_ascii: &[u8],
-        label: Result<&[u8], u8>,
-        wanted: u8,
-        length: usize,
-    ) -> Option<String> {
-        let mark = u64::from(MARKS[length % 2]) << 8;
-        let place = self.place.lend(length, mark);
-        let number = port::label(&file.ext, &file.bytes, place);
+    /// What differs in the four counts.
+    fn counts(&self, wanted: [u32; 4]) -> Option<String> {
+        let mut counts = COUNTS.iter().zip(&self.counts).zip(wanted);
+        counts.find_map(|((name, count), wanted)| count.difference(name, &[wanted]))
+    }
+
+    /// What differs in the call for the label.
+    fn label(&mut self, file: &File, in_ascii: &[u8], label: Result<&[u8], u8>) -> Option<String> {
+        let mark = u64::from(MARKS[file.bytes.len() % 2]) << 8;
+        let number = port::label(
+            &file.ext,
+            &file.bytes,
+            self.start.lend_one(mark),
+            self.length.lend_one(mark),
+        );
+        let wanted = label.err().unwrap_or(0);
         if number != u32::from(wanted) {
             return Some(format!("number {number}, wanted {wanted}"));
         }
-        let (start, long) = match (label, self.place.cells()) {
-            (Ok(label), &[start, long]) => {
-                let part = part(in_ascii, start, long);
-                if part != Some(label) {
-                    return Some(format!("{long} bytes at {start}, wanted {label:?}"));
-                }
-                (start, long)
-            }
-            _ => (0, 0),
+        let (start, length) = match label {
+            Ok(_) => (self.start.one(), self.length.one()),
+            Err(_) => (0, 0),
         };
-        let cells = if length == 2 { &[start, long][..] } else { &[] };
-        self.place.difference("place", cells)
+        if let Ok(label) = label
+            && part(in_ascii, start, length) != Some(label)
+        {
+            return Some(format!("{length} bytes at {start}, wanted {label:?}"));
+        }
+        self.start
+            .difference("start", &[start])
+            .or_else(|| self.length.difference("length", &[length]))
     }
 }
 
@@ -140,7 +139,6 @@ fn number(answer: &Result<Cells, u8>, lengths: Lengths) -> u8 {
             .any(|(&n, room)| n > room)
     };
     match answer {
-        _ if lengths[3] != 4 => 11,
         Err(number) => *number,
         Ok(cells) if short(cells) => 11,
         Ok(_) => 0,
@@ -148,19 +146,15 @@ fn number(answer: &Result<Cells, u8>, lengths: Lengths) -> u8 {
 }
 
 /// The lengths of buffers that a file is read with: ample ones, ones as long as
-/// the answer and a cell longer, ones of which one is a cell too short, and
-/// counts that are not four.
+/// the answer and a cell longer, ones of which one is a cell too short; for a
+/// refused file ample ones and none.
 fn trials(answer: &Result<Cells, u8>, n: usize) -> Vec<Lengths> {
-    let lent = |[places, runs, blocks]: [usize; 3]| [places, runs, blocks, 4];
-    let ample = lent(port::ample(n));
-    let mut odd = ample;
-    odd[3] = [0, 1, 2, 3, 5, 6][n % 6];
+    let ample = port::ample(n);
     let Ok(cells) = answer else {
-        return vec![ample, [0, 0, 0, 4], odd];
+        return vec![ample, [0; 3]];
     };
-    let just = lent(cells.lengths());
-    let longer = lent(cells.lengths().map(|length| length + 1));
-    let mut trials = vec![ample, just, longer, odd];
+    let just = cells.lengths();
+    let mut trials = vec![ample, just, just.map(|length| length + 1)];
     for buffer in (0..3).filter(|&buffer| just[buffer] > 0) {
         for mut lent in [ample, just] {
             lent[buffer] = just[buffer] - 1;

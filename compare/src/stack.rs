@@ -12,10 +12,13 @@ use std::ffi::{c_int, c_void};
 use std::{ptr, slice};
 
 /// Bytes of the stack that is lent to a call.
-const SIZE: usize = 1 << 20;
+const SIZE: usize = 2 << 20;
 
-/// No call may go as deep.
+/// No call may go as deep, but for that of records.
 const LIMIT: usize = 512 << 10;
+
+/// That of records may not go as deep as this.
+const LIMIT_CMDS: usize = 1 << 20;
 
 const MARK: u64 = 0x5AC3_96E1_0F78_B42D;
 
@@ -81,18 +84,19 @@ fn depth(call: &mut dyn FnMut()) -> usize {
 }
 
 /// Prints the greatest depth of each call in each format; false if one reaches
-/// the limit.
+/// its limit.
 pub fn print() -> bool {
     println!("\ndeepest stack, in bytes\n");
     println!("| call | PES | PEC | DST | EXP | JEF |\n|---|---|---|---|---|---|");
     let mut fits = true;
     let rows = [
-        ("read", Format::ALL.map(read)),
-        ("label", Format::ALL.map(label)),
-        ("write", Format::ALL.map(write)),
+        ("read", LIMIT, Format::ALL.map(read)),
+        ("label", LIMIT, Format::ALL.map(label)),
+        ("write", LIMIT, Format::ALL.map(write)),
+        ("write_cmds", LIMIT_CMDS, Format::ALL.map(write_cmds)),
     ];
-    for (name, depths) in rows {
-        fits &= depths.iter().all(|&depth| depth < LIMIT);
+    for (name, limit, depths) in rows {
+        fits &= depths.iter().all(|&depth| depth < limit);
         let [pes, pec, dst, exp, jef] = depths;
         println!("| {name} | {pes} | {pec} | {dst} | {exp} | {jef} |");
     }
@@ -126,24 +130,33 @@ fn read(format: Format) -> usize {
 fn label(format: Format) -> usize {
     let ext = format.ext().as_bytes();
     let one = |file: &Vec<u8>| {
-        let mut place = [0; 2];
+        let (mut start, mut length) = (0, 0);
         depth(&mut || {
-            port::label(ext, file, &mut place);
+            port::label(ext, file, &mut start, &mut length);
         })
     };
     files(format).iter().map(one).max().unwrap_or(0)
 }
 
-/// The designs, and boundary lists: many colour changes, many threads.
 fn write(format: Format) -> usize {
+    writes(format, |writes| writes.port())
+}
+
+fn write_cmds(format: Format) -> usize {
+    writes(format, |writes| writes.port_cmds())
+}
+
+/// The designs, and boundary lists: many colour changes, many threads.
+fn writes(format: Format, call: fn(&mut Writes) -> (u32, u64)) -> usize {
     let mut lists: Vec<_> = DESIGNS.iter().map(|design| design.list()).collect();
     lists.extend(written::boundary(format, 1).into_iter().step_by(7));
     let one = |list: &crate::lists::List| {
         let (ready, lists): (Ready, Lists) = (list.ready(), Lists::of(list));
         let mut writes = Writes::new(format, &ready, &lists);
-        depth(&mut || {
-            writes.port();
-        })
+        let mut number = 1;
+        let depth = depth(&mut || (number, _) = call(&mut writes));
+        assert_eq!(number, 0, "a list that is written");
+        depth
     };
     lists.iter().map(one).max().unwrap_or(0)
 }

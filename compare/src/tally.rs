@@ -20,6 +20,18 @@ const ROWS: [(&str, &str); 6] = [
     ("other", "other extensions"),
 ];
 
+/// The port's functions, which are called for a case.
+#[derive(Clone, Copy)]
+pub enum Function {
+    Read,
+    Label,
+    Write,
+    WriteCmds,
+    WriteBound,
+}
+
+const FUNCTIONS: [&str; 5] = ["read", "label", "write", "write_cmds", "write_bound"];
+
 /// A case: one file to read or one list to write.
 pub enum Case<'a> {
     Read(&'a File),
@@ -29,10 +41,18 @@ pub enum Case<'a> {
 /// The calls of one case.
 #[derive(Default)]
 pub struct Calls {
-    /// How many calls should answer each number.
-    pub numbers: [u64; 12],
+    functions: [Count; 5],
     /// What differs, call by call.
-    pub found: Vec<String>,
+    found: Vec<String>,
+}
+
+/// The calls of one function.
+#[derive(Clone, Default)]
+struct Count {
+    calls: u64,
+    /// How many should answer each number, if it answers one.
+    numbers: [u64; 12],
+    differ: u64,
 }
 
 /// What a case says, by the published Rust and by document 01's refusals.
@@ -48,7 +68,7 @@ pub struct Told {
 #[derive(Default)]
 pub struct Tally {
     rows: BTreeMap<&'static str, Row>,
-    numbers: [u64; 12],
+    functions: [Count; 5],
     /// The first differences, with the numbers of their case and call.
     found: Vec<(usize, usize, String)>,
     /// The shortest input that differs, for each row, with its size and case.
@@ -72,9 +92,17 @@ struct Side {
 }
 
 impl Calls {
-    /// Takes one call: the number it should answer, and what differs.
-    pub fn take(&mut self, number: u8, found: Option<String>) {
-        self.numbers[usize::from(number)] += 1;
+    /// Takes one call of a function: the number it should answer, if it answers
+    /// one, and what differs.
+    pub fn take(&mut self, function: Function, number: Option<u8>, found: Option<String>) {
+        let at = function as usize;
+        let count = &mut self.functions[at];
+        count.calls += 1;
+        count.differ += u64::from(found.is_some());
+        if let Some(number) = number {
+            count.numbers[usize::from(number)] += 1;
+        }
+        let found = found.map(|what| format!("{}, {what}", FUNCTIONS[at]));
         self.found.extend(found);
     }
 }
@@ -87,9 +115,9 @@ impl Tally {
             Case::Write(_) => &mut known.writes,
         };
         side.take(&told);
-        known.calls += calls.numbers.iter().sum::<u64>();
+        known.calls += calls.functions.iter().map(|count| count.calls).sum::<u64>();
         known.differ += calls.found.len() as u64;
-        add(&mut self.numbers, &calls.numbers);
+        self.count(&calls.functions);
         if calls.found.is_empty() {
             return;
         }
@@ -116,7 +144,7 @@ impl Tally {
             known.calls += row.calls;
             known.differ += row.differ;
         }
-        add(&mut self.numbers, &other.numbers);
+        self.count(&other.functions);
         self.found.extend(other.found);
         self.found.sort();
         self.found.truncate(PRINTED);
@@ -125,6 +153,14 @@ impl Tally {
             if self.shortest.get(&key).is_none_or(longer) {
                 self.shortest.insert(key, input);
             }
+        }
+    }
+
+    fn count(&mut self, functions: &[Count; 5]) {
+        for (known, count) in self.functions.iter_mut().zip(functions) {
+            known.calls += count.calls;
+            known.differ += count.differ;
+            add(&mut known.numbers, &count.numbers);
         }
     }
 
@@ -157,12 +193,8 @@ impl Tally {
             );
         }
         self.print_sizes();
-        let calls: u64 = self.numbers.iter().sum();
-        println!(
-            "\ncalls by the number wanted: 0: {}; {}",
-            digits(self.numbers[0]),
-            refused(&self.numbers)
-        );
+        self.print_functions();
+        let calls: u64 = self.functions.iter().map(|count| count.calls).sum();
         println!(
             "{} cases, {} calls, {} differences",
             digits(cases),
@@ -186,6 +218,23 @@ impl Tally {
                 digits(row.writes.longest as u64)
             );
         }
+    }
+
+    /// The calls of each function, and those of all by the number wanted.
+    fn print_functions(&self) {
+        println!("\n| function | calls | by the number wanted | differences |");
+        println!("|---|---|---|---|");
+        let mut numbers = [0; 12];
+        for (name, count) in FUNCTIONS.iter().zip(&self.functions) {
+            add(&mut numbers, &count.numbers);
+            println!(
+                "| {name} | {} | {} | {} |",
+                digits(count.calls),
+                by_number(&count.numbers, 0),
+                digits(count.differ)
+            );
+        }
+        println!("\ncalls by the number wanted: {}", by_number(&numbers, 0));
     }
 }
 
@@ -260,7 +309,12 @@ fn hexadecimal(bytes: &[u8]) -> String {
 
 /// The numbers of refusals that occur, each with its count.
 fn refused(numbers: &[u64; 12]) -> String {
-    let found = numbers.iter().enumerate().skip(1);
+    by_number(numbers, 1)
+}
+
+/// The numbers from this one on that occur, each with its count.
+fn by_number(numbers: &[u64; 12], least: usize) -> String {
+    let found = numbers.iter().enumerate().skip(least);
     let found = found.filter(|&(_, &count)| count > 0);
     let shown = found.map(|(number, &count)| format!("{number}: {}", digits(count)));
     let shown: Vec<String> = shown.collect();

@@ -4,7 +4,7 @@
 
 use crate::formats::read::read_stitch_file;
 use crate::oracle::{Format, Ready};
-use crate::port::{self, Cells, Lists};
+use crate::port::{self, Cells, Cmd, Lists};
 use std::ffi::c_int;
 use std::hint::black_box;
 
@@ -106,7 +106,7 @@ impl<'a> Reads<'a> {
             places,
             runs,
             blocks,
-            &mut self.counts,
+            self.counts.each_mut(),
         ))
     }
 
@@ -145,6 +145,7 @@ pub struct Writes<'a> {
     format: Format,
     ready: &'a Ready,
     lists: &'a Lists,
+    cmds: Vec<Cmd>,
     out: Vec<u8>,
 }
 
@@ -154,6 +155,7 @@ impl<'a> Writes<'a> {
             format,
             ready,
             lists,
+            cmds: lists.records(0).expect("slices of one length"),
             out: vec![0; ready.write(format).len()],
         }
     }
@@ -164,7 +166,19 @@ impl<'a> Writes<'a> {
 
     pub fn port(&mut self) -> (u32, u64) {
         let ext = self.format.ext().as_bytes();
-        black_box(port::write(ext, black_box(self.lists), &mut self.out))
+        let mut length = 0;
+        let number = port::write(ext, black_box(self.lists), &mut self.out, &mut length);
+        black_box((number, length))
+    }
+
+    /// The list by its records.
+    pub fn port_cmds(&mut self) -> (u32, u64) {
+        let ext = self.format.ext().as_bytes();
+        let (name, threads) = (&self.lists.name, &self.lists.threads);
+        let (cmds, out) = (black_box(&self.cmds), &mut self.out);
+        let mut length = 0;
+        let number = port::write_cmds(ext, name, cmds, threads, out, &mut length);
+        black_box((number, length))
     }
 
     pub fn lay(&self) {

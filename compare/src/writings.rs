@@ -1,51 +1,65 @@
-//! The port's write against the published Rust, and its refusals against document
-//! 01's table: number, length and every byte of the buffer, those past the file
-//! too.
+//! The port's two writes against the published Rust, and their refusals against
+//! document 01's table: number, length and every byte of the buffer, those past the
+//! file too.
 
 use crate::asked::Asked;
 use crate::lent::Lent;
 use crate::oracle::{self, Command};
-use crate::port::{self, Lists};
-use crate::refusals;
-use crate::tally::{Calls, Told};
+use crate::port::{self, Cmd, Lists};
+use crate::tally::{Calls, Function, Told};
+use crate::{bounds, refusals};
 
 /// Bytes are set to one of these before a call; the calls for one list take
 /// both, so that a byte left out shows in one of them.
 const MARKS: [u8; 2] = [0xA5, 0x5A];
 
+/// The padding of records, by turns.
+const JUNK: [u8; 2] = [0x00, 0xA5];
+
 /// A buffer for the calls.
 #[derive(Default)]
 pub struct Writings {
     out: Lent<u8>,
+    length: Lent<u64>,
+}
+
+/// One call: what it should answer, and the buffer lent.
+struct Trial<'a> {
+    number: u8,
+    file: &'a [u8],
+    length: usize,
+    mark: u8,
 }
 
 impl Writings {
-    /// Writes a list with many buffers: as long as the file, one longer, one
-    /// shorter, and of none; a refused one with an ample buffer and with none.
+    /// Writes a list with many buffers, each time by its slices and, if they are
+    /// of one length, by its records; and asks for the bound of its file.
     pub fn compare(&mut self, asked: &Asked) -> (Told, Calls) {
         let answer = answer(asked);
-        let file = answer.as_deref().unwrap_or_default();
-        let lengths = match &answer {
-            Ok(file) => {
-                let n = file.len();
-                let mut lengths = vec![n, n + 1];
-                lengths.extend(n.checked_sub(1));
-                lengths.extend((n > 1).then_some(0));
-                lengths
-            }
-            Err(_) => vec![ample(&asked.list), 0],
-        };
         let mut calls = Calls::default();
-        for (at, length) in lengths.into_iter().enumerate() {
-            let wanted = match &answer {
-                Err(number) => *number,
-                Ok(file) if file.len() > length => 11,
-                Ok(_) => 0,
+        for (at, length) in lengths(&answer, &asked.list).into_iter().enumerate() {
+            let (number, file) = match &answer {
+                Err(number) => (*number, &[][..]),
+                Ok(file) if file.len() > length => (11, &[][..]),
+                Ok(file) => (0, &file[..]),
             };
-            let found = self.write(asked, file, wanted, length, MARKS[at % 2]);
-            let found = found.map(|what| format!("buffer of {length} bytes: {what}"));
-            calls.take(wanted, found);
+            let mark = MARKS[at % 2];
+            let trial = Trial {
+                number,
+                file,
+                length,
+                mark,
+            };
+            let told = |what| format!("buffer of {length} bytes: {what}");
+            let found = self.write(asked, &trial).map(told);
+            calls.take(Function::Write, Some(number), found);
+            if let Some(cmds) = asked.list.records(JUNK[at % 2]) {
+                let found = self.write_cmds(asked, &cmds, &trial).map(told);
+                calls.take(Function::WriteCmds, Some(number), found);
+            }
         }
+        let file = answer.as_deref().unwrap_or_default();
+        bounds::compare(asked, file, &mut calls);
         let told = Told {
             number: answer.as_ref().err().copied().unwrap_or(0),
             length: file.len(),
@@ -54,26 +68,49 @@ impl Writings {
         (told, calls)
     }
 
-    /// What differs in one write.
-    fn write(
-        &mut self,
-        asked: &Asked,
-        file: &[u8],
-        wanted: u8,
-        length: usize,
-        mark: u8,
-    ) -> Option<String> {
-        let out = self.out.lend(length, mark);
-        let (number, told) = port::write(&asked.ext, &asked.list, out);
-        let file = if wanted == 0 { file } else { &[] };
-        if number != u32::from(wanted) {
-            return Some(format!("number {number}, wanted {wanted}"));
-        }
-        if told != file.len() as u64 {
-            return Some(format!("length {told}, wanted {}", file.len()));
-        }
-        self.out.difference("file", file)
+    /// What differs in one write of slices.
+    fn write(&mut self, asked: &Asked, trial: &Trial) -> Option<String> {
+        let (out, length) = self.lend(trial);
+        let number = port::write(&asked.ext, &asked.list, out, length);
+        self.difference(number, trial)
     }
+
+    /// What differs in one write of records.
+    fn write_cmds(&mut self, asked: &Asked, cmds: &[Cmd], trial: &Trial) -> Option<String> {
+        let (name, threads) = (&asked.list.name, &asked.list.threads);
+        let (out, length) = self.lend(trial);
+        let number = port::write_cmds(&asked.ext, name, cmds, threads, out, length);
+        self.difference(number, trial)
+    }
+
+    fn lend(&mut self, trial: &Trial) -> (&mut [u8], &mut u64) {
+        let out = self.out.lend(trial.length, trial.mark);
+        let length = self.length.lend_one(u64::from_ne_bytes([trial.mark; 8]));
+        (out, length)
+    }
+
+    fn difference(&self, number: u32, trial: &Trial) -> Option<String> {
+        if number != u32::from(trial.number) {
+            return Some(format!("number {number}, wanted {}", trial.number));
+        }
+        let length = trial.file.len() as u64;
+        self.length
+            .difference("length", &[length])
+            .or_else(|| self.out.difference("file", trial.file))
+    }
+}
+
+/// The lengths of buffers that a list is written to: as long as the file, one
+/// longer, one shorter, and none; for a refused list an ample one and none.
+fn lengths(answer: &Result<Vec<u8>, u8>, list: &Lists) -> Vec<usize> {
+    let Ok(file) = answer else {
+        return vec![ample(list), 0];
+    };
+    let n = file.len();
+    let mut lengths = vec![n, n + 1];
+    lengths.extend(n.checked_sub(1));
+    lengths.extend((n > 1).then_some(0));
+    lengths
 }
 
 /// The published Rust's file, or the number of the refusal.

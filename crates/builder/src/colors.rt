@@ -1,4 +1,5 @@
 // The colour of a block.
+// A port of src/formats/read.rs of zigzag, changed.
 ghost use mathlib.Core.Path.{_≡_};
 ghost use Rattle.rules.specs.Files.{orDefault};
 ghost use Rattle.rules.specs.declared.Slot.the-variants.{Empty};

@@ -1,5 +1,6 @@
 // Reading: what has been read so far, and the colours of blocks.
 // The builder is one small record that is lent by mutable reference; here is what each record of a file makes of it.
+// A port of src/formats/read.rs of zigzag, changed.
 pub mod colors;
 
 use rules::Counts;

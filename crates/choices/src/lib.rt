@@ -1,4 +1,5 @@
 // JEF: the entry of the chart for each thread.
+// A port of src/formats/more.rs of zigzag, changed.
 use rules::Color;
 use rules::Found;
 use rules::Previous;

@@ -1,4 +1,4 @@
 -- Lemmas of the proofs.
 pub mod Turns
-pub mod Again
 pub mod Told
+pub mod Arrays

@@ -1,126 +1,106 @@
--- What the three calls say, together: what the list of records is owed. Assumes nothing.
-use Prim.Native.Nat.{ℕ, zero, suc, _+_, _≤_, _<_}
+-- What the three calls of `write_cmds_as` say, together: what the write of the records is owed. Assumes nothing.
+use Prim.Native.Nat.{ℕ, _+_, _≤_, _<_}
 use mathlib.Core.Path.{_≡_, refl, sym, _∙_, ap, subst}
-use mathlib.Core.Bool.{Bool, true, false, not, _||_}
-use mathlib.Core.List.{List, [], _∷_, _++_, map}
+use mathlib.Core.Bool.{Bool, true, false, _||_}
+use mathlib.Core.List.{List, map}
 use native.Mathlib.Nat.{zero-add, le-refl}
 use native.Mathlib.Omega.{arith}
-use borrow.Author.Tests.{lt-ltb, le-ltb}
+use borrow.Author.Tests.{ltb-true, lt-ltb, le-ltb}
 use lib.Dec.{ltb, eqb}
 use lib.IntN.{ℤ}
-use lib.ListN.{length, set, take, drop, length-map}
+use lib.ListN.{length, take, drop, length-map}
 use lib.Seq.{sets, sets-eq, take-length, take-at}
 use Rattle.laws.specs.Tests.{false-true}
-use Rattle.rules.specs.Files.{filled, fileTold, writeVerdict, writeAnswer, writeNumber}
+use Rattle.rules.specs.Files.{filled, fileTold, writeVerdict, writeAnswer}
 use Rattle.rules.specs.Lists.{commands}
+use Rattle.rules.specs.Promises.{xsOf, ysOf, kindsOf, Wrote}
+use Rattle.rules.specs.Refusals.{badList, listRefusals, verdict}
 use Rattle.rules.specs.Vocabulary.{pick}
 use Rattle.rules.specs.declared.Cmd.{Cmd}
-use Rattle.rules.specs.declared.Extension.{Extension}
-use Rattle.rules.specs.declared.Refusal.the-variants.{BufferTooShort}
+use Rattle.rules.specs.declared.Extension.the-variants.{Of}
+use Rattle.rules.specs.declared.Format.{Format}
+use Rattle.rules.specs.declared.Refusal.the-variants.{BadList}
 use Rattle.rules.specs.declared.Verdict.{Verdict}
 use Rattle.rules.specs.declared.Verdict.the-variants.{Refused}
-use Rattle.cmds.specs.Records.{xOf, yOf, kindOf, noScratch, unfit, cmdsVerdict, scratchAfter, lengthAfter}
+use Rattle.rules.specs.declared.WriteAnswer.{WriteAnswer}
+use Rattle.cmds.specs.Records.{FrontBy, WroteFront}
 
--- the numbers of a list, put together again
-pub commands-back : (cs : List Cmd) → commands (map xOf cs) (map yOf cs) (map kindOf cs) ≡ cs
-unfolding commands
-commands-back [] = refl
-commands-back (c ∷ cs) = ap (λ (r : List Cmd). c ∷ r) (commands-back cs)
+-- all of the list is unpacked: its numbers stand at the front
+front : {B : Type 0} (f : Cmd → B) (l z : List B) (cs : List Cmd) (m : ℕ)
+    → m ≡ length cs → m ≤ length l → z ≡ sets l 0 (map f (take m cs)) → take m z ≡ map f cs
+front {B} f l z cs m e h u =
+    ap (λ (s : List B). take m s)
+    (u ∙ ap (λ (j : ℕ). sets l 0 (map f (take j cs))) e
+    ∙ ap (λ (s : List Cmd). sets l 0 (map f s)) (take-length cs)
+    ∙ sets-eq (map f cs) l 0 (subst (λ (j : ℕ). j ≤ length l) (e ∙ sym (length-map cs f) ∙ sym (zero-add (length (map f cs)))) h))
+    ∙ take-at (map f cs) (drop (0 + length (map f cs)) l) m (length-map cs f ∙ sym e)
 
--- a store into one cell
-pub one-cell : (s : List ℕ) → length s ≡ 1 → {a : ℕ} → set s 0 a ≡ a ∷ []
-one-cell [] h = absurd (omega arith)
-one-cell (p ∷ []) h = refl
-one-cell (p ∷ q ∷ s) h = absurd (omega arith)
+-- a list of over 65,535 commands is refused
+second : (a t b : Bool) → t ≡ true → a || (t || b) ≡ true
+second true t b h = refl
+second false true b h = refl
+second false false b h = false-true h
 
--- ---- how many are unpacked: all or none
+too-many : (xs ys : List ℤ) (ks : List ℕ) → ltb 65535 (length ks) ≡ true → badList xs ys ks ≡ true
+unfolding badList
+too-many xs ys ks h = second (eqb (length ks) 0) (ltb 65535 (length ks)) _ h
 
--- a test of fewer than n passes where n is not 0
-any-short : (a b c n : ℕ) → ltb a n || (ltb b n || ltb c n) ≡ true → 0 < n
-any-short a b c zero h = false-true (rw (le-ltb a 0 (omega arith), le-ltb b 0 (omega arith), le-ltb c 0 (omega arith)) at h)
-any-short a b c (suc n) h = omega arith
+picked : {X : Type 0} (t : Bool) (x y : X) → t ≡ true → pick t x y ≡ x
+picked true x y h = refl
+picked false x y h = false-true h
 
--- none stands for slices that don't fit
-same-test : (p u : Bool) (m n : ℕ) → m ≡ pick (not p || u) 0 n → (u ≡ true → 0 < n) → not p || ltb m n ≡ not p || u
-same-test false u m n e h = refl
-same-test true true m n e h = lt-ltb m n (subst (λ (j : ℕ). j < n) (sym e) (h refl))
-same-test true false m n e h = le-ltb m n (subst (λ (j : ℕ). n ≤ j) (sym e) (le-refl n))
-
--- ---- one slice of numbers
-module _ {B : Type 0} (f : Cmd → B) (l z : List B) (cs : List Cmd) (m : ℕ) where
-  -- all are unpacked: the numbers stand at the front
-  whole : m ≡ length cs → m ≤ length l → z ≡ sets l 0 (map f (take m cs)) → z ≡ map f cs ++ drop (length (map f cs)) l
-  whole e h u =
-      u ∙ ap (λ (j : ℕ). sets l 0 (map f (take j cs))) e ∙ ap (λ (s : List Cmd). sets l 0 (map f s)) (take-length cs)
-      ∙ sets-eq (map f cs) l 0 (subst (λ (j : ℕ). j ≤ length l) (e ∙ sym (length-map cs f) ∙ sym (zero-add (length (map f cs)))) h)
-      ∙ ap (λ (j : ℕ). map f cs ++ drop j l) (zero-add (length (map f cs)))
-
-  after : (t : Bool) → m ≡ pick t 0 (length cs) → m ≤ length l → z ≡ sets l 0 (map f (take m cs)) → z ≡ scratchAfter t (map f cs) l
-  unfolding scratchAfter
-  after true e h u = u ∙ ap (λ (j : ℕ). sets l 0 (map f (take j cs))) e
-  after false e h u = whole e h u
-
-  front : m ≡ length cs → m ≤ length l → z ≡ sets l 0 (map f (take m cs)) → take m z ≡ map f cs
-  front e h u = ap (λ (s : List B). take m s) (whole e h u) ∙ take-at (map f cs) (drop (length (map f cs)) l) m (length-map cs f ∙ sym e)
+refused : (f : Format) (name : List ℕ) (xs ys : List ℤ) (ks threads : List ℕ) (n : ℕ)
+    → badList xs ys ks ≡ true → writeVerdict (Of f) name xs ys ks threads n ≡ Refused BadList
+unfolding writeVerdict listRefusals verdict
+refused f name xs ys ks threads n h = picked (badList xs ys ks) (Refused BadList) _ h
 
 -- ---- the three calls
-module _ (e : Extension) (name threads : List ℕ) (cs : List Cmd) (xs ys : List ℤ) (ks os ss : List ℕ) where
-  abbrev n : ℕ
-  n = length cs
+-- what `fitting` says of m, and `unpack` of what the arrays held and of what it left in them
+abbrev pub Fits : List Cmd → ℕ → Type 0
+Fits cs m = (m ≡ pick (ltb 65535 (length cs)) 0 (length cs)) × (m ≤ length cs) × (m ≤ 65535)
 
-  -- what the tests say
-  abbrev short : Bool
-  short = ltb (length xs) n || (ltb (length ys) n || ltb (length ks) n)
+abbrev pub Unpacked : List Cmd → ℕ → List ℤ → List ℤ → List ℕ → List ℤ → List ℤ → List ℕ → Type 0
+Unpacked cs m xs ys ks x y k = (x ≡ sets xs 0 (xsOf (take m cs))) × (y ≡ sets ys 0 (ysOf (take m cs))) × (k ≡ sets ks 0 (kindsOf (take m cs)))
 
-  abbrev one : Bool
-  one = eqb (length ss) 1
+module _ (f : Format) (name : List ℕ) (cs : List Cmd) (threads os o : List ℕ) (w : WriteAnswer) where
+  abbrev file : List ℕ
+  file = fileTold (Of f) name (commands (xsOf cs) (ysOf cs) (kindsOf cs)) threads
 
-  -- what `fitting`, `unpack` and `write_front` say, and what the export owes
-  abbrev pub Fits : ℕ → Type 0
-  Fits m = (m ≡ pick (not one || short) 0 n) × (m ≤ n) × (m ≤ length xs) × (m ≤ length ys) × (m ≤ length ks)
+  -- what the write owes
+  abbrev pub Owed : Type 0
+  Owed = Wrote (Of f) name (xsOf cs) (ysOf cs) (kindsOf cs) threads os o w
 
-  abbrev pub Unpacked : ℕ → List ℤ → List ℤ → List ℕ → Type 0
-  Unpacked m x y k = (x ≡ sets xs 0 (map xOf (take m cs))) × (y ≡ sets ys 0 (map yOf (take m cs))) × (k ≡ sets ks 0 (map kindOf (take m cs)))
+  module _ (m : ℕ) (xs ys : List ℤ) (ks : List ℕ) (x y : List ℤ) (k : List ℕ)
+      (room : (m ≤ length xs) × (m ≤ length ys) × (m ≤ length ks)) (u : Unpacked cs m xs ys ks x y k) where
+    -- what `write_front` says, by its test
+    abbrev Front : Bool → Type 0
+    Front t = FrontBy t f name m x y k threads os o w
 
-  abbrev said : Bool → List ℤ → List ℤ → List ℕ → Verdict
-  said t x y k = pick t (Refused BufferTooShort) (writeVerdict e name x y k threads (length os))
+    -- more than fit: none is unpacked, and 6
+    none : 65535 < length cs → Front true → Owed
+    unfolding writeAnswer filled
+    none h q =
+        let v = refused f name (xsOf cs) (ysOf cs) (kindsOf cs) threads (length os) (too-many (xsOf cs) (ysOf cs) (kindsOf cs)
+        (ap (ltb 65535) (length-map cs (λ (c : Cmd). c .kind)) ∙ lt-ltb 65535 (length cs) h)) in
+        record {
+          answered = subst (λ (r : Verdict). w ≡ writeAnswer r (length file)) (sym v) (q .0);
+          stored = subst (λ (r : Verdict). o ≡ filled r file os) (sym v) (q .1);
+        }
 
-  abbrev file : List ℤ → List ℤ → List ℕ → List ℕ
-  file x y k = fileTold e name (commands x y k) threads
+    -- all are unpacked: the arrays begin with the list's columns
+    all : m ≡ length cs → Front false → Owed
+    all p q =
+        rw (
+          front (λ (c : Cmd). c .x) xs x cs m p (room .0) (u .0),
+          front (λ (c : Cmd). c .y) ys y cs m p (room .1) (u .1),
+          front (λ (c : Cmd). c .kind) ks k cs m p (room .2) (u .2),
+        ) at q
 
-  abbrev Written : Verdict → List ℕ → ℕ → List ℕ → List ℕ → Type 0
-  Written v s r o l = (r ≡ writeNumber (writeAnswer v (length s))) × (o ≡ filled v s os) × (l ≡ lengthAfter (writeAnswer v (length s)) ss)
+    by-test : (t : Bool) → ltb 65535 (length cs) ≡ t → m ≡ pick t 0 (length cs) → Front (ltb m (length cs)) → Owed
+    by-test true e p q =
+        let h = ltb-true 65535 (length cs) e in
+        none h (subst Front (lt-ltb m (length cs) (subst (λ (j : ℕ). j < length cs) (sym p) (omega arith))) q)
+    by-test false e p q = all p (subst Front (le-ltb m (length cs) (subst (λ (j : ℕ). length cs ≤ j) (sym p) (le-refl (length cs)))) q)
 
-  abbrev pub Wrote : ℕ → List ℤ → List ℤ → List ℕ → ℕ → List ℕ → List ℕ → List ℤ → List ℤ → List ℕ → Type 0
-  Wrote m x y k r o l x′ y′ k′ =
-      (r ≡ writeNumber (writeAnswer (said (not one || ltb m n) (take m x) (take m y) (take m k)) (length (file (take m x) (take m y) (take m k)))))
-      × (o ≡ filled (said (not one || ltb m n) (take m x) (take m y) (take m k)) (file (take m x) (take m y) (take m k)) os)
-      × (l ≡ lengthAfter (writeAnswer (said (not one || ltb m n) (take m x) (take m y) (take m k)) (length (file (take m x) (take m y) (take m k)))) ss)
-      × (x′ ≡ x) × (y′ ≡ y) × (k′ ≡ k)
-
-  abbrev verdict : Verdict
-  verdict = cmdsVerdict e name cs threads (length os) (length xs) (length ys) (length ks) (length ss)
-
-  abbrev pub Owed : ℕ → List ℕ → List ℕ → List ℤ → List ℤ → List ℕ → Type 0
-  Owed r o l x y k =
-      (r ≡ writeNumber (writeAnswer verdict (length (fileTold e name cs threads))))
-      × (o ≡ filled verdict (fileTold e name cs threads) os)
-      × (l ≡ lengthAfter (writeAnswer verdict (length (fileTold e name cs threads))) ss)
-      × (x ≡ scratchAfter (unfit cs (length xs) (length ys) (length ks) (length ss)) (map xOf cs) xs)
-      × (y ≡ scratchAfter (unfit cs (length xs) (length ys) (length ks) (length ss)) (map yOf cs) ys)
-      × (k ≡ scratchAfter (unfit cs (length xs) (length ys) (length ks) (length ss)) (map kindOf cs) ks)
-
-  -- under a refusal of the slices nothing else counts; else the slices hold the list
-  written-of : (t : Bool) (m : ℕ) (x y : List ℤ) (k : List ℕ) (r : ℕ) (o l : List ℕ) → m ≡ pick t 0 n → Fits m → Unpacked m x y k
-      → Written (said t (take m x) (take m y) (take m k)) (file (take m x) (take m y) (take m k)) r o l → Written (said t (map xOf cs) (map yOf cs) (map kindOf cs)) (fileTold e name cs threads) r o l
-  unfolding writeAnswer filled
-  written-of true m x y k r o l p fit u w = w
-  written-of false m x y k r o l p fit u w =
-      rw (front xOf xs x cs m p (fit .2) (u .0), front yOf ys y cs m p (fit .3) (u .1), front kindOf ks k cs m p (fit .4) (u .2), commands-back cs) at w
-
-  pub told : (m : ℕ) (x y : List ℤ) (k : List ℕ) (r : ℕ) (o l : List ℕ) (x′ y′ : List ℤ) (k′ : List ℕ) → Fits m → Unpacked m x y k → Wrote m x y k r o l x′ y′ k′ → Owed r o l x′ y′ k′
-  unfolding cmdsVerdict unfit noScratch
-  told m x y k r o l x′ y′ k′ fit u w =
-      let t = same-test one short m n (fit .0) (any-short (length xs) (length ys) (length ks) n) in
-      let v = written-of (not one || short) m x y k r o l (fit .0) fit u (subst (λ (b : Bool). Written (said b (take m x) (take m y) (take m k)) (file (take m x) (take m y) (take m k)) r o l) t (w .0, w .1, w .2)) in
-      (v .0, v .1, v .2, w .3 ∙ after xOf xs x cs m (not one || short) (fit .0) (fit .2) (u .0), w .4 ∙ after yOf ys y cs m (not one || short) (fit .0) (fit .3) (u .1), w .5 ∙ after kindOf ks k cs m (not one || short) (fit .0) (fit .4) (u .2))
+    pub told : Fits cs m → WroteFront f name (length cs) m x y k threads os o w → Owed
+    told fit q = by-test (ltb 65535 (length cs)) refl (fit .0) q

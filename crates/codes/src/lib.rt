@@ -1,4 +1,5 @@
 // Threads, three bytes each, and the nearest entry of PEC's whole chart to one.
+// A port of src/formats/pes.rs of zigzag, changed.
 use formats::nearest_index;
 use formats::pec_palette;
 use rules::Color;

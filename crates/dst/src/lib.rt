@@ -1,4 +1,5 @@
 // DST: the header, and whole files.
+// A port of src/formats/dst.rs of zigzag, changed.
 use checks::check_list;
 use checks::color_changes;
 use emit::put;

@@ -1,4 +1,5 @@
 // The bytes of all commands of a list in DST, EXP and JEF.
+// A port of src/formats/dst.rs and src/formats/more.rs of zigzag, changed.
 pub mod pairs;
 pub mod triples;
 

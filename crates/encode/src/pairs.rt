@@ -1,4 +1,5 @@
 // EXP and JEF: the commands of a list, two stitches in a row at once.
+// A port of src/formats/more.rs of zigzag, changed.
 use crate::are_stitches;
 use crate::step;
 use encode_cmd::pairs::pair_cmd;

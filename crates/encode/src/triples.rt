@@ -1,4 +1,5 @@
 // DST: the records of a list, two stitches in a row at once.
+// A port of src/formats/dst.rs of zigzag, changed.
 use crate::are_stitches;
 use crate::step;
 use encode_cmd::triples::dst_cmd;

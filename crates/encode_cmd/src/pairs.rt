@@ -1,4 +1,5 @@
 // EXP and JEF: a step is the bytes x and -y; 80 opens a control.
+// A port of src/formats/more.rs of zigzag, changed.
 use emit::put2;
 use emit::put4;
 use rules::Op;

@@ -1,4 +1,5 @@
 // DST: signed digits of weight 81, 27, 9, 3, 1 on each axis.
+// A port of src/formats/dst.rs of zigzag, changed.
 use emit::put_three;
 use emit::put3;
 use rules::Op;

@@ -1,4 +1,5 @@
 // What every format uses: extensions, operations, bounds of a list, colours and the choice of a thread.
+// A port of src/formats/mod.rs of zigzag, changed.
 use geom::Bounds;
 use geom::P;
 pub use rules::Cmd;

@@ -1,4 +1,5 @@
 // What a file's first bytes tell: whether the file is refused, where its own part begins, and its label.
+// A port of src/formats/read.rs of zigzag, changed.
 use formats::extension_of;
 use header::Span;
 use header::Word;

@@ -1,4 +1,5 @@
 // Places and bounds, in tenths of a millimetre; +y points down.
+// A port of src/geom.rs of zigzag, changed.
 ghost use mathlib.Core.Path.{_≡_};
 ghost use lib.IntN.{_-ℤ_};
 ghost use lib.Signed.{ltZ};

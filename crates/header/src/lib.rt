@@ -1,4 +1,5 @@
 // What is read of a file besides its stitches: numbers, labels, stored colours.
+// A port of src/formats/read.rs of zigzag, changed.
 use rules::Color;
 use rules::Slot;
 ghost use mathlib.Core.Path.{_≡_};

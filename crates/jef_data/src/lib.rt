@@ -1,4 +1,5 @@
 // JEF's chart of threads. Entry 0 is never chosen.
+// A port of src/formats/jef_data.rs of zigzag, changed.
 use rules::Color;
 ghost use mathlib.Core.Path.{_≡_};
 ghost use Prim.Native.Nat.{_<_};

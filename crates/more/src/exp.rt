@@ -1,4 +1,5 @@
 // EXP: the commands' bytes and nothing else.
+// A port of src/formats/more.rs of zigzag, changed.
 use checks::check_list;
 use encode::put_stream;
 use encode::stream_len;

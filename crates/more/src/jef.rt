@@ -1,4 +1,5 @@
 // JEF: header, two tables of threads, the commands' bytes.
+// A port of src/formats/more.rs of zigzag, changed.
 use checks::check_list;
 use choices::choice_in;
 use choices::jef_threads;

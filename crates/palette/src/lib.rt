@@ -1,4 +1,5 @@
 // The entries of PEC's chart for the threads: each distinct thread gets one of its own while there are any.
+// A port of src/formats/pes.rs of zigzag, changed.
 use codes::thread_at;
 use emit::put;
 use formats::nearest_index;

@@ -1,4 +1,5 @@
 // What goes into the three buffers, each cell once and in order.
+// A port of src/formats/read.rs of zigzag, changed.
 use crate::stretch::Stretch;
 use builder::Builder;
 use builder::after_stitches;

@@ -1,4 +1,5 @@
 // The three answers of a read: one pass over the records counts their cells, one writes them.
+// A port of src/formats/read.rs of zigzag, changed.
 pub mod answers;
 pub mod stretch;
 

@@ -1,4 +1,5 @@
 // Plain stitches that follow each other, by far the most records: each pass has a small loop for them.
+// A port of src/formats/read.rs of zigzag, changed.
 use crate::answers::put_point;
 use builder::sum;
 use records::plain::plain_len;

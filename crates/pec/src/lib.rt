@@ -1,4 +1,5 @@
 // PEC: the stitches of a list, one command after the other.
+// A port of src/formats/pes.rs of zigzag, changed.
 use emit::put2;
 use formats::list_len;
 use formats::op_of;

@@ -1,4 +1,5 @@
 // PEC: the bytes of one command, and the state between two commands.
+// A port of src/formats/pes.rs of zigzag, changed.
 use emit::put;
 use emit::put2;
 use emit::put3;

@@ -1,4 +1,5 @@
 // PEC's chart of threads and the blank thumbnail. Entry 0 of the chart is never chosen.
+// A port of src/formats/pec_data.rs of zigzag, changed.
 use rules::Color;
 ghost use mathlib.Core.Path.{_≡_};
 ghost use Prim.Native.Nat.{_<_};

@@ -1,4 +1,5 @@
 // PEC: the header and the stitch block that a PEC file holds after its signature and a PES file at its end.
+// A port of src/formats/pes.rs of zigzag, changed.
 use checks::color_changes;
 use emit::put;
 use emit::put_name;

@@ -1,4 +1,5 @@
 // PEC and PES files.
+// A port of src/formats/pes.rs of zigzag, changed.
 use checks::check_list;
 use codes::thread_codes;
 use emit::put_short;

@@ -1,4 +1,5 @@
 // PES: the sections with what stands before and behind them.
+// A port of src/formats/pes.rs of zigzag, changed.
 use emit::put_short;
 use emit::put_text;
 use emit::put_times;

@@ -1,4 +1,5 @@
 // PES: what one command writes, and the state between two commands.
+// A port of src/formats/pes.rs of zigzag, changed.
 use codes::code_at;
 use emit::put_short;
 use formats::op_of;

@@ -1,4 +1,5 @@
 // Reading: a file of any of the five formats, into three lent buffers.
+// A port of src/formats/read.rs of zigzag, changed.
 use formats::extension_of;
 use front::Opening;
 use front::front;

@@ -1,4 +1,5 @@
 // Two's complement without a test of the sign: half the range is added, and taken away after the remainder.
+// A port of src/formats/read.rs of zigzag, changed.
 ghost use mathlib.Core.Path.{_≡_};
 ghost use Prim.Native.Nat.{_<_};
 ghost use lib.IntN.{pos, negℤ, _-ℤ_};

@@ -1,4 +1,5 @@
 // What stands at a place of a file: the record there, in each format.
+// A port of src/formats/read.rs of zigzag, changed.
 pub mod bytes;
 pub mod pair;
 pub mod plain;

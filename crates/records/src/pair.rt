@@ -1,4 +1,5 @@
 // EXP records, and those of JEF from its offset: bytes x and -y, or 80, a control and two bytes more.
+// A port of src/formats/read.rs of zigzag, changed.
 use crate::bytes::minus8;
 use crate::bytes::s8;
 use rules::Record;

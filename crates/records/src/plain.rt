@@ -1,5 +1,6 @@
 // Plain stitches, by far the most records: their length and their step without a `Record` in between.
 // A length of 0 says only that the general way is to be taken; a stitch may stand there all the same.
+// A port of src/formats/read.rs of zigzag, changed.
 use crate::bytes::minus8;
 use crate::bytes::s8;
 use crate::bytes::signed7;

@@ -1,4 +1,5 @@
 // PEC records: FF 00, FE B0 and a byte, or two steps, x then y.
+// A port of src/formats/read.rs of zigzag, changed.
 use crate::bytes::signed7;
 use crate::bytes::signed12;
 use rules::Record;

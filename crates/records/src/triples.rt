@@ -1,4 +1,5 @@
 // DST records, three bytes each.
+// A port of src/formats/read.rs of zigzag, changed.
 use crate::bytes::less;
 use rules::Record;
 ghost use mathlib.Core.Path.{_≡_};

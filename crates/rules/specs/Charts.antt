@@ -1,4 +1,5 @@
 -- The charts of threads, and the blank thumbnail.
+-- A port of src/formats/pec_data.rs and src/formats/jef_data.rs of zigzag, changed.
 use Prim.Native.Nat.{ℕ}
 use mathlib.Core.List.{List, [], _∷_}
 use lib.ListN.{replicate}

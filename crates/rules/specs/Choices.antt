@@ -1,4 +1,5 @@
 -- The choice of a chart's entry for a thread.
+-- A port of src/formats/mod.rs and src/formats/more.rs of zigzag, changed.
 use Prim.Native.Nat.{ℕ, _+_, _-_, _*_, _/_, _%_}
 use mathlib.Core.Bool.{Bool, true, false, _&&_, not}
 use mathlib.Core.List.{List, [], _∷_, map}

@@ -1,4 +1,5 @@
 -- DST: 512 header bytes, then records of three.
+-- A port of src/formats/dst.rs and src/formats/read.rs of zigzag, changed.
 use Prim.Native.Nat.{ℕ, _+_, _*_, _/_, _%_, _^_}
 use mathlib.Core.Bool.{Bool}
 use mathlib.Core.List.{List, [], _∷_, _++_}

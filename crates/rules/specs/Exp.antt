@@ -1,4 +1,5 @@
 -- EXP, and JEF from its offset: pairs x, -y; 0x80 opens a control.
+-- A port of src/formats/more.rs and src/formats/read.rs of zigzag, changed.
 use Prim.Native.Nat.{ℕ}
 use mathlib.Core.Bool.{Bool, true, false}
 use mathlib.Core.List.{List, [], _∷_}

@@ -1,4 +1,5 @@
 -- Files: what is written for a list, and what is read of a file: records, label, stored colours, refusals.
+-- A port of src/formats/read.rs of zigzag, changed.
 use Prim.Native.Nat.{ℕ, zero, suc, _+_, _-_, _*_, _%_, min}
 use mathlib.Core.Bool.{Bool, true, false, not, _&&_, _||_}
 use mathlib.Core.List.{List, [], _∷_, _++_}

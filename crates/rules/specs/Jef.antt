@@ -1,4 +1,5 @@
 -- JEF: a header, two tables of threads, then records as in EXP.
+-- A port of src/formats/more.rs of zigzag, changed.
 use Prim.Native.Nat.{ℕ, _+_, _*_, _/_}
 use mathlib.Core.Bool.{_&&_}
 use mathlib.Core.List.{List, [], _∷_, _++_, map}

@@ -14,5 +14,6 @@ pub mod Jef
 pub mod Answers
 pub mod Files
 pub mod Sewing
+pub mod Promises
 pub mod Samples
 pub mod Vectors

@@ -1,4 +1,5 @@
 -- PEC: label at 3, colour count less one at 48, stitches at 528.
+-- A port of src/formats/pes.rs and src/formats/read.rs of zigzag, changed.
 use Prim.Native.Nat.{ℕ, _+_, _-_, _*_, _/_, _%_}
 use mathlib.Core.Bool.{Bool, true, false, not, _&&_, _||_}
 use mathlib.Core.List.{List, [], _∷_, _++_, map}

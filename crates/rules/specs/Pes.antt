@@ -1,4 +1,5 @@
 -- PES: a header, the sections of the design, the colour log, then a PEC part.
+-- A port of src/formats/pes.rs of zigzag, changed.
 use Prim.Native.Nat.{ℕ, suc, _+_, _/_}
 use mathlib.Core.Bool.{Bool, true, false, not}
 use mathlib.Core.List.{List, [], _∷_, _++_, map}

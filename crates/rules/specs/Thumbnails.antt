@@ -1,4 +1,5 @@
 -- Thumbnails: one for the whole, one per colour block, in f64 with each operation rounded as in `draw_scaled`.
+-- A port of src/formats/pes.rs of zigzag, changed.
 use Prim.Native.Nat.{ℕ, _+_, _-_, _*_, _/_, _%_, _^_}
 use mathlib.Core.Bool.{true, false, _&&_}
 use mathlib.Core.List.{List, [], _∷_, _++_, map}

@@ -94,6 +94,13 @@ pub enum WriteAnswer {
     Unwritten(Refusal),
 }
 
+// What a write answers whose file is read back: not written, and why; written, with its length, but not read, and why; or both.
+pub enum RoundTripAnswer {
+    NotWritten(Refusal),
+    NotRead(usize, Refusal),
+    ReadBack(usize, Counts),
+}
+
 // What the first record of a list of bytes does, by how far it moves, and the bytes it takes.
 pub enum Record {
     StitchBy { dx: i32, dy: i32, len: usize },

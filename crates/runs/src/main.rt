@@ -1,6 +1,8 @@
 // Reads an extension, a newline and a file from standard input, and prints what the file sews.
+mod buffer;
 mod show;
 
+use buffer::Buffer;
 use formats::extension_of;
 use libc::STDIN_FILENO;
 use rules::Extension;
@@ -35,10 +37,12 @@ fn too_long(ext: &[u8]) -> Refusal {
     }
 }
 
-fn answer(ext: &[u8], file: &[u8]) {
+// Puts what a file sews, or why it is refused, into the buffer.
+fn answer(out: &mut Buffer, ext: &[u8], file: &[u8]) -> usize
+    ensures { λ r. ⌜ r ≤ 65536 ⌝ }
+{
     if 65536 < file.len() {
-        show::refused(too_long(ext));
-        return;
+        return show::refused(out, 0, too_long(ext));
     }
     let mut places = [0i32; 16384];
     let mut runs = [0u32; 16384];
@@ -46,29 +50,32 @@ fn answer(ext: &[u8], file: &[u8]) {
     let told = read::read(ext, file, &mut places, &mut runs, &mut blocks);
     match told {
         ReadAnswer::Read(c) => {
-            show::counts(ext, c);
-            show::label(front::label(ext, file));
-            show::blocks(&places, &runs, &blocks, c.blocks);
+            let mut at = show::counts(out, 0, ext, c);
+            at = show::label(out, at, front::label(ext, file));
+            show::blocks(out, at, &places, &runs, &blocks, c.blocks)
         }
-        ReadAnswer::Unread(why) => show::refused(why),
+        ReadAnswer::Unread(why) => show::refused(out, 0, why),
     }
 }
 
 // Input without a newline is all extension.
-fn split(input: &[u8]) {
+fn split(out: &mut Buffer, input: &[u8]) -> usize
+    ensures { λ r. ⌜ r ≤ 65536 ⌝ }
+{
     let end = line_end(input);
     if end == input.len() {
-        answer(input, &input[end..]);
-        return;
+        return answer(out, input, &input[end..]);
     }
     let start = end + 1;
-    answer(&input[..end], &input[start..]);
+    answer(out, &input[..end], &input[start..])
 }
 
-// The buffer holds three bytes of extension, a newline and one byte more than a file may have. Of
+// The input buffer holds three bytes of extension, a newline and one byte more than a file may have. Of
 // more input the answer is known: a longer extension is none of the five, or the file is too long.
 fn main() {
     let mut input = [0u8; 65541];
     let n = io::read_full(STDIN_FILENO, &mut input);
-    split(&input[..n]);
+    let mut out = [0u8; 65536];
+    let at = split(&mut out, &input[..n]);
+    buffer::flush(&out, at);
 }

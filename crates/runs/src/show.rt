@@ -1,6 +1,9 @@
-// What is printed, line by line.
+// What is printed, line by line. A function that puts bytes into the buffer answers the next `at`.
+use crate::buffer::Buffer;
+use crate::buffer::put_byte;
+use crate::buffer::put_decimal;
+use crate::buffer::put_text;
 use formats::extension_of;
-use libc::STDOUT_FILENO;
 use rules::Counts;
 use rules::Extension;
 use rules::Format;
@@ -8,58 +11,63 @@ use rules::Refusal;
 ghost use Prim.Native.Nat.{_≤_, _<_};
 ghost use lib.ListN.{length};
 
-fn text(s: &[u8]) {
-    io::write_all(STDOUT_FILENO, s);
-}
-
-fn byte(b: u8) {
-    let one = [b];
-    text(&one);
-}
-
 // A name and a number.
-fn number(name: &[u8], n: u32) {
-    text(name);
-    io::print_decimal(STDOUT_FILENO, n as u64);
+fn number(out: &mut Buffer, at: usize, name: &[u8], n: u32) -> usize
+    requires { ⌜ at ≤ 65536 ⌝ }
+    ensures { λ r. ⌜ r ≤ 65536 ⌝ }
+{
+    let to = put_text(out, at, name);
+    put_decimal(out, to, n as u64)
 }
 
-fn signed(z: i32) {
+fn signed(out: &mut Buffer, at: usize, z: i32) -> usize
+    requires { ⌜ at ≤ 65536 ⌝ }
+    ensures { λ r. ⌜ r ≤ 65536 ⌝ }
+{
     let w = z as i64;
     if w < 0 {
-        text(b"-");
-        io::print_decimal(STDOUT_FILENO, (0 - w) as u64);
-        return;
+        let to = put_byte(out, at, b'-');
+        return put_decimal(out, to, (0 - w) as u64);
     }
-    io::print_decimal(STDOUT_FILENO, w as u64);
+    put_decimal(out, at, w as u64)
 }
 
-pub fn refused(why: Refusal) {
-    number(b"refused ", checks::number(why));
-    text(b"\n");
+pub fn refused(out: &mut Buffer, at: usize, why: Refusal) -> usize
+    requires { ⌜ at ≤ 65536 ⌝ }
+    ensures { λ r. ⌜ r ≤ 65536 ⌝ }
+{
+    let to = number(out, at, b"refused ", checks::number(why));
+    put_byte(out, to, b'\n')
 }
 
 // The extension in small letters, if it is one of the five.
-fn extension(ext: &[u8]) {
+fn extension(out: &mut Buffer, at: usize, ext: &[u8]) -> usize
+    requires { ⌜ at ≤ 65536 ⌝ }
+    ensures { λ r. ⌜ r ≤ 65536 ⌝ }
+{
     let named = extension_of(ext);
     let Extension::Of(f) = named else {
-        return;
+        return at;
     };
     match f {
-        Format::Pes => text(b"pes"),
-        Format::Pec => text(b"pec"),
-        Format::Dst => text(b"dst"),
-        Format::Exp => text(b"exp"),
-        Format::Jef => text(b"jef"),
+        Format::Pes => put_text(out, at, b"pes"),
+        Format::Pec => put_text(out, at, b"pec"),
+        Format::Dst => put_text(out, at, b"dst"),
+        Format::Exp => put_text(out, at, b"exp"),
+        Format::Jef => put_text(out, at, b"jef"),
     }
 }
 
-pub fn counts(ext: &[u8], c: Counts) {
-    extension(ext);
-    number(b" blocks ", c.blocks);
-    number(b" runs ", c.runs);
-    number(b" points ", c.points);
-    number(b" cuts ", c.cuts);
-    text(b"\n");
+pub fn counts(out: &mut Buffer, at: usize, ext: &[u8], c: Counts) -> usize
+    requires { ⌜ at ≤ 65536 ⌝ }
+    ensures { λ r. ⌜ r ≤ 65536 ⌝ }
+{
+    let mut to = extension(out, at, ext);
+    to = number(out, to, b" blocks ", c.blocks);
+    to = number(out, to, b" runs ", c.runs);
+    to = number(out, to, b" points ", c.points);
+    to = number(out, to, b" cuts ", c.cuts);
+    put_byte(out, to, b'\n')
 }
 
 // A byte outside 0x20..0x7E is shown as a dot.
@@ -73,62 +81,73 @@ fn visible(b: u8) -> u8 {
     b
 }
 
-pub fn label(s: &[u8]) {
-    text(b"label [");
+pub fn label(out: &mut Buffer, at: usize, s: &[u8]) -> usize
+    requires { ⌜ at ≤ 65536 ⌝ }
+    ensures { λ r. ⌜ r ≤ 65536 ⌝ }
+{
+    let mut to = put_text(out, at, b"label [");
     let mut i = 0;
     while i < s.len() {
-        byte(visible(s[i]));
+        to = put_byte(out, to, visible(s[i]));
         i += 1;
     }
-    text(b"]\n");
+    put_text(out, to, b"]\n")
 }
 
-fn digit(n: u32)
+fn digit(n: u32) -> u8
     requires { ⌜ n < 16 ⌝ }
 {
     if n < 10 {
-        byte(b'0' + (n as u8));
-        return;
+        return b'0' + (n as u8);
     }
-    byte(b'A' + ((n - 10) as u8));
+    b'A' + ((n - 10) as u8)
 }
 
 // Two digits.
-fn pair(n: u32) {
-    digit(n / 16 % 16);
-    digit(n % 16);
+fn pair(out: &mut Buffer, at: usize, n: u32) -> usize
+    requires { ⌜ at ≤ 65536 ⌝ }
+    ensures { λ r. ⌜ r ≤ 65536 ⌝ }
+{
+    let to = put_byte(out, at, digit(n / 16 % 16));
+    put_byte(out, to, digit(n % 16))
 }
 
-fn block(k: u32, colour: u32, runs: u32) {
-    number(b"block ", k);
-    text(b" colour ");
-    pair(colour / 65536);
-    pair(colour / 256);
-    pair(colour);
-    number(b" runs ", runs);
-    text(b"\n");
+// The line above a block's runs.
+fn heading(out: &mut Buffer, at: usize, k: u32, colour: u32, runs: u32) -> usize
+    requires { ⌜ at ≤ 65536 ⌝ }
+    ensures { λ r. ⌜ r ≤ 65536 ⌝ }
+{
+    let mut to = number(out, at, b"block ", k);
+    to = put_text(out, to, b" colour ");
+    to = pair(out, to, colour / 65536);
+    to = pair(out, to, colour / 256);
+    to = pair(out, to, colour);
+    to = number(out, to, b" runs ", runs);
+    put_byte(out, to, b'\n')
 }
 
-fn point(x: i32, y: i32) {
-    signed(x);
-    text(b" ");
-    signed(y);
-    text(b"\n");
+fn point(out: &mut Buffer, at: usize, x: i32, y: i32) -> usize
+    requires { ⌜ at ≤ 65536 ⌝ }
+    ensures { λ r. ⌜ r ≤ 65536 ⌝ }
+{
+    let mut to = signed(out, at, x);
+    to = put_byte(out, to, b' ');
+    to = signed(out, to, y);
+    put_byte(out, to, b'\n')
 }
 
-// A run and its points, two cells each.
-fn run(n: u32, cells: &[i32]) {
-    number(b"run ", n);
-    text(b"\n");
-    points(cells);
-}
-
-fn points(cells: &[i32]) {
+// The points of a run, two cells each.
+fn points(out: &mut Buffer, at: usize, cells: &[i32]) -> usize
+    requires { ⌜ at ≤ 65536 ⌝ }
+    ensures { λ r. ⌜ r ≤ 65536 ⌝ }
+{
+    let mut to = at;
     let mut i = 0;
     while i + 1 < cells.len() {
-        point(cells[i], cells[i + 1]);
+        to = point(out, to, cells[i], cells[i + 1]);
         i += 2;
     }
+    to
 }
 
 fn wide(n: u32) -> usize
@@ -148,35 +167,93 @@ fn past(at: usize, n: usize, end: usize) -> usize
     end
 }
 
-// The runs of a block, whose points begin at a cell; and the cell at which they end.
-fn block_runs(places: &[i32], from: usize, runs: &[u32]) -> usize
-    requires { ⌜ from ≤ length (now places) ⌝ }
-    ensures { λ r. ⌜ r ≤ length (now (places .entry)) ⌝ }
+// What comes next: a place in the buffer, a cell and a run.
+struct Next {
+    at: usize,
+    cell: usize,
+    run: usize,
+}
+
+// A run of n points.
+fn run(out: &mut Buffer, from: Next, places: &[i32], n: u32) -> Next
+    requires { ⌜ (from .at ≤ 65536) × (from .cell ≤ length (now places)) ⌝ }
+    ensures { λ r. ⌜ (r .at ≤ 65536) × (r .cell ≤ length (now (places .entry))) ⌝ }
 {
-    let mut at = from;
+    let cell = from.cell;
+    let end = past(cell, 2 * wide(n), places.len());
+    let mut to = number(out, from.at, b"run ", n);
+    to = put_byte(out, to, b'\n');
+    let mut next = from;
+    next.at = points(out, to, &places[cell..end]);
+    next.cell = end;
+    next
+}
+
+fn block_runs(out: &mut Buffer, from: Next, places: &[i32], runs: &[u32]) -> Next
+    requires { ⌜ (from .at ≤ 65536) × (from .cell ≤ length (now places)) ⌝ }
+    ensures { λ r. ⌜ (r .at ≤ 65536) × (r .cell ≤ length (now (places .entry))) ⌝ }
+{
+    let mut next = from;
     let mut i = 0;
     while i < runs.len() {
-        let n = runs[i];
-        let end = past(at, 2 * wide(n), places.len());
-        run(n, &places[at..end]);
-        at = end;
+        next = run(out, next, places, runs[i]);
         i += 1;
     }
-    at
+    next
+}
+
+// A block of n runs.
+fn block(
+    out: &mut Buffer,
+    from: Next,
+    places: &[i32],
+    runs: &[u32],
+    k: u32,
+    colour: u32,
+    n: u32,
+) -> Next
+    requires { ⌜ (from .at ≤ 65536) × (from .cell ≤ length (now places)) × (from .run ≤ length (now runs)) ⌝ }
+    ensures { λ r. ⌜ (r .at ≤ 65536) × (r .cell ≤ length (now (places .entry))) × (r .run ≤ length (now (runs .entry))) ⌝ }
+{
+    let start = from.run;
+    let end = past(start, wide(n), runs.len());
+    let mut next = from;
+    next.at = heading(out, from.at, k, colour, n);
+    next = block_runs(out, next, places, &runs[start..end]);
+    next.run = end;
+    next
 }
 
 // The first n blocks with their runs and points.
-pub fn blocks(places: &[i32], runs: &[u32], blocks: &[u32], n: u32) {
+pub fn blocks(
+    out: &mut Buffer,
+    at: usize,
+    places: &[i32],
+    runs: &[u32],
+    blocks: &[u32],
+    n: u32,
+) -> usize
+    requires { ⌜ at ≤ 65536 ⌝ }
+    ensures { λ r. ⌜ r ≤ 65536 ⌝ }
+{
     let last = past(0, 3 * wide(n), blocks.len());
-    let mut cell = 0;
-    let mut run = 0;
+    let mut next = Next {
+        at,
+        cell: 0,
+        run: 0,
+    };
     let mut i = 0;
     while i + 2 < last {
-        let m = blocks[i + 2];
-        block(blocks[i], blocks[i + 1], m);
-        let end = past(run, wide(m), runs.len());
-        cell = block_runs(places, cell, &runs[run..end]);
-        run = end;
+        next = block(
+            out,
+            next,
+            places,
+            runs,
+            blocks[i],
+            blocks[i + 1],
+            blocks[i + 2],
+        );
         i += 3;
     }
+    next.at
 }

@@ -1,4 +1,5 @@
 // Thumbnails: the scale and the two offsets of a picture, and a place's pixel number, in f64.
+// A port of src/formats/pes.rs of zigzag, changed.
 use rules::Scale;
 ghost use mathlib.Core.Path.{_≡_};
 ghost use Rattle.rules.specs.Thumbnails.{atLeastOne, lesser, spanOf, middle, scaleBy, offset, scaleOf, floorOf, within};

@@ -1,4 +1,5 @@
 // PES: the sections of a design, and the log of their colours.
+// A port of src/formats/pes.rs of zigzag, changed.
 use formats::list_len;
 use formats::op_of;
 use pes_cmd::State;

@@ -13,10 +13,12 @@ use lib.Seq.{take-append-seam}
 use Rattle.rules.specs.Answers.{pointsAfter, startOf, places, blockOf, begunAfter, blocks, pointTotal, blockTotal}
 use Rattle.rules.specs.Lists.{commands}
 use Rattle.rules.specs.Records.{Event, stitch, jump, change}
-use Rattle.rules.specs.Refusals.{extensionOf, verdict, listRefusals, listVerdict}
+use Rattle.rules.specs.Refusals.{verdict, listRefusals, listVerdict}
 use Rattle.rules.specs.Files.{fileOf, eventsOf, colourOf, placesOf, runsOf, blocksOf, readVerdict, placesTold, runsTold, blocksTold, countsOf, readAnswer, readNumber, readCounts, filled, fileTold, writeVerdict, writeAnswer, writeNumber, writeLength}
 use Rattle.rules.specs.Sewing.{Entry, listSewing, fileSewing, toldSewing}
+use Rattle.rules.specs.Promises.{Wrote, ReadOf, Room}
 use Rattle.rules.specs.declared.Cmd.{Cmd}
+use Rattle.rules.specs.declared.Extension.{Extension}
 use Rattle.rules.specs.declared.Extension.the-variants.{Of}
 use Rattle.rules.specs.declared.Format.{Format}
 use Rattle.rules.specs.declared.ReadAnswer.{ReadAnswer}
@@ -27,32 +29,11 @@ use Rattle.rules.specs.declared.WriteAnswer.the-variants.{Written}
 use Rattle.laws.specs.Verdicts.{verdict-on}
 use Rattle.sewing.specs.Theorem.{kept, alike, read-accepted}
 
--- ---- what the calls promise, for every input
-
--- `write` with the buffer d before and d′ after it answers w
-pub record Wrote (ext name : List ℕ) (xs ys : List ℤ) (kinds threads d d′ : List ℕ) (w : WriteAnswer) : Type 0 where
-  pub told : w ≡ writeAnswer (writeVerdict (extensionOf ext) name xs ys kinds threads (length d)) (length (fileTold (extensionOf ext) name (commands xs ys kinds) threads))
-  pub stored : d′ ≡ filled (writeVerdict (extensionOf ext) name xs ys kinds threads (length d)) (fileTold (extensionOf ext) name (commands xs ys kinds) threads) d
-
--- `read` of a file answers r
-pub record ReadOf (ext file : List ℕ) (ps ps′ : List ℤ) (rs rs′ bs bs′ : List ℕ) (r : ReadAnswer) : Type 0 where
-  pub told : r ≡ readAnswer (readVerdict (extensionOf ext) file (length ps) (length rs) (length bs)) (countsOf (placesTold (extensionOf ext) file) (runsTold (extensionOf ext) file) (blocksTold (extensionOf ext) file))
-  pub places : ps′ ≡ filled (readVerdict (extensionOf ext) file (length ps) (length rs) (length bs)) (placesTold (extensionOf ext) file) ps
-  pub runs : rs′ ≡ filled (readVerdict (extensionOf ext) file (length ps) (length rs) (length bs)) (runsTold (extensionOf ext) file) rs
-  pub blocks : bs′ ≡ filled (readVerdict (extensionOf ext) file (length ps) (length rs) (length bs)) (blocksTold (extensionOf ext) file) bs
-
--- buffers that hold a file and the answer of its read
-pub record Room (f : Format) (file d : List ℕ) (ps : List ℤ) (rs bs : List ℕ) : Type 0 where
-  pub bytes : length file ≤ length d
-  pub places : length (placesOf f file) ≤ length ps
-  pub runs : length (runsOf f file) ≤ length rs
-  pub blocks : length (blocksOf f file) ≤ length bs
-
 -- A list accepted for a format, written into a buffer that is long enough; the file is the front bytes of the length told. It is read under
--- the same extension, with buffers that hold the answer.
+-- the same extension, with buffers that hold the answer. `extension` is what the extension names, whatever its letters' case.
 pub record RoundTrip : Type 0 where
   pub format : Format
-  pub ext : List ℕ
+  pub extension : Extension
   pub name : List ℕ
   pub xs : List ℤ
   pub ys : List ℤ
@@ -68,11 +49,11 @@ pub record RoundTrip : Type 0 where
   pub bs′ : List ℕ
   pub w : WriteAnswer
   pub r : ReadAnswer
-  pub named : extensionOf ext ≡ Of format
+  pub named : extension ≡ Of format
   pub accepted : listVerdict format xs ys kinds threads ≡ Accepted
   pub room : Room format (fileOf format name (commands xs ys kinds) threads) d ps rs bs
-  pub wrote : Wrote ext name xs ys kinds threads d d′ w
-  pub reads : ReadOf ext (take (writeLength w) d′) ps ps′ rs rs′ bs bs′ r
+  pub wrote : Wrote extension name xs ys kinds threads d d′ w
+  pub read-back : ReadOf extension (take (writeLength w) d′) ps rs bs ps′ rs′ bs′ r
 
 -- the list's sewing, and the sewing that comes back
 abbrev pub sewing : RoundTrip → List Entry
@@ -138,11 +119,11 @@ front answer l n e = rw e (take-append-seam answer (drop (length answer) l))
 
 -- ---- the claim
 
-pub write-accepts : (f : Format) (ext name : List ℕ) (xs ys : List ℤ) (kinds threads : List ℕ) (n : ℕ) → extensionOf ext ≡ Of f → listVerdict f xs ys kinds threads ≡ Accepted
-    → length (fileOf f name (commands xs ys kinds) threads) ≤ n → writeVerdict (extensionOf ext) name xs ys kinds threads n ≡ Accepted
+pub write-accepts : (f : Format) (e : Extension) (name : List ℕ) (xs ys : List ℤ) (kinds threads : List ℕ) (n : ℕ) → e ≡ Of f → listVerdict f xs ys kinds threads ≡ Accepted
+    → length (fileOf f name (commands xs ys kinds) threads) ≤ n → writeVerdict e name xs ys kinds threads n ≡ Accepted
 unfolding writeVerdict listVerdict verdict
-write-accepts f ext name xs ys kinds threads n e a h =
-    rw e (verdict-on (listRefusals f xs ys kinds threads) _ a ∙ rw (le-ltb n (length (fileOf f name (commands xs ys kinds) threads)) h))
+write-accepts f e name xs ys kinds threads n is a h =
+    rw is (verdict-on (listRefusals f xs ys kinds threads) _ a ∙ rw (le-ltb n (length (fileOf f name (commands xs ys kinds) threads)) h))
 
 module _ (t : RoundTrip) where
   abbrev cs : List Cmd
@@ -151,12 +132,12 @@ module _ (t : RoundTrip) where
   abbrev file : List ℕ
   file = fileOf (t .format) (t .name) cs (t .threads)
 
-  accepts : writeVerdict (extensionOf (t .ext)) (t .name) (t .xs) (t .ys) (t .kinds) (t .threads) (length (t .d)) ≡ Accepted
-  accepts = write-accepts (t .format) (t .ext) (t .name) (t .xs) (t .ys) (t .kinds) (t .threads) (length (t .d)) (t .named) (t .accepted) (t .room .bytes)
+  accepts : writeVerdict (t .extension) (t .name) (t .xs) (t .ys) (t .kinds) (t .threads) (length (t .d)) ≡ Accepted
+  accepts = write-accepts (t .format) (t .extension) (t .name) (t .xs) (t .ys) (t .kinds) (t .threads) (length (t .d)) (t .named) (t .accepted) (t .room .bytes)
 
   is-written : t .w ≡ Written (length file)
   unfolding writeAnswer fileTold
-  is-written = t .wrote .told ∙ rw (accepts, t .named)
+  is-written = t .wrote .answered ∙ rw (accepts, t .named)
 
   buffer : t .d′ ≡ file ++ drop (length file) (t .d)
   unfolding filled fileTold
@@ -166,13 +147,13 @@ module _ (t : RoundTrip) where
   unfolding writeLength
   the-file = rw (is-written, buffer) (front file (t .d) (length file) refl)
 
-  reading : ReadOf (t .ext) file (t .ps) (t .ps′) (t .rs) (t .rs′) (t .bs) (t .bs′) (t .r)
-  reading = rw the-file at (t .reads)
+  reading : ReadOf (t .extension) file (t .ps) (t .rs) (t .bs) (t .ps′) (t .rs′) (t .bs′) (t .r)
+  reading = rw the-file at (t .read-back)
 
-  read-accepts : readVerdict (extensionOf (t .ext)) file (length (t .ps)) (length (t .rs)) (length (t .bs)) ≡ Accepted
+  read-accepts : readVerdict (t .extension) file (length (t .ps)) (length (t .rs)) (length (t .bs)) ≡ Accepted
   read-accepts =
       let k = kept (t .format) (t .name) (t .xs) (t .ys) (t .kinds) (t .threads) (t .accepted) in
-      rw (t .named) (read-accepted (t .format) file _ _ _ (k .taken-back) (t .room .places) (t .room .runs) (t .room .blocks))
+      rw (t .named) (read-accepted (t .format) file _ _ _ (k .taken-back) (t .room .place-cells) (t .room .run-cells) (t .room .block-cells))
 
   abbrev P : List ℤ
   P = placesOf (t .format) file
@@ -185,19 +166,19 @@ module _ (t : RoundTrip) where
 
   is-read : t .r ≡ Read (countsOf P R B)
   unfolding readAnswer placesTold runsTold blocksTold
-  is-read = reading .told ∙ rw (read-accepts, t .named)
+  is-read = reading .answered ∙ rw (read-accepts, t .named)
 
   places-are : t .ps′ ≡ P ++ drop (length P) (t .ps)
   unfolding filled placesTold
-  places-are = reading .places ∙ rw (read-accepts, t .named)
+  places-are = reading .places-are ∙ rw (read-accepts, t .named)
 
   runs-are : t .rs′ ≡ R ++ drop (length R) (t .rs)
   unfolding filled runsTold
-  runs-are = reading .runs ∙ rw (read-accepts, t .named)
+  runs-are = reading .runs-are ∙ rw (read-accepts, t .named)
 
   blocks-are : t .bs′ ≡ B ++ drop (length B) (t .bs)
   unfolding filled blocksTold
-  blocks-are = reading .blocks ∙ rw (read-accepts, t .named)
+  blocks-are = reading .blocks-are ∙ rw (read-accepts, t .named)
 
   told : back t ≡ fileSewing P R B
   unfolding toldSewing readCounts countsOf

@@ -247,7 +247,7 @@ length-cmd Trim dx dy = omega arith
 length-cmd ColorChange dx dy = omega arith
 length-cmd End dx dy = omega arith
 
-length-written : (x y : ℤ) (cs : List Cmd) → length (written dstCmd x y cs) ≤ 9 * length cs
+pub length-written : (x y : ℤ) (cs : List Cmd) → length (written dstCmd x y cs) ≤ 9 * length cs
 unfolding written
 length-written x y [] = omega arith
 length-written x y (c ∷ cs) = simp length-append (omega (arith, length-cmd (opOf (c .kind)) (c .x -ℤ x) (c .y -ℤ y), length-written (c .x) (c .y) cs))

@@ -8,3 +8,4 @@ pub mod PecFiles
 pub mod PairSewing
 pub mod Theorem
 pub mod Calls
+pub mod Sizes

@@ -174,7 +174,7 @@ length-edges ex ey w h =
     pick-both (λ (s : List ℕ). length s ≡ 16) (leZ (pos 0) (pos ex -ℤ pos (halfUp w)) && leZ (pos 0) (pos ey -ℤ pos (halfUp h)))
     (simp (length-append, length-little)) (simp (length-append, length-little))
 
-header-length : (cs : List Cmd) (threads : List Color) → length (jefHeader cs threads) ≡ 0x74 + 8 * length (jefTable threads)
+pub header-length : (cs : List Cmd) (threads : List Color) → length (jefHeader cs threads) ≡ 0x74 + 8 * length (jefTable threads)
 unfolding jefHeader joined
 header-length cs threads = simp (length-append, length-little, length-words, length-edges, length-replicate) (omega arith)
 
@@ -189,7 +189,7 @@ unfolding orOne
 or-one-length [] = omega arith
 or-one-length (e ∷ es) = omega arith
 
-table-length : (threads : List Color) → length (jefTable threads) ≤ suc (length threads)
+pub table-length : (threads : List Color) → length (jefTable threads) ≤ suc (length threads)
 unfolding jefTable
 table-length threads = omega (arith, or-one-length (jefEntries First threads), entries-length First threads)
 
@@ -218,14 +218,14 @@ jef-sewing name cs threads h g =
 
 -- ---- what is written is accepted: it is short enough, and JEF's header long enough
 
-written-length : (cmd : Op → ℤ → ℤ → List ℕ) → ((op : Op) (dx dy : ℤ) → length (cmd op dx dy) ≤ 4) → (x y : ℤ) (cs : List Cmd)
+pub written-length : (cmd : Op → ℤ → ℤ → List ℕ) → ((op : Op) (dx dy : ℤ) → length (cmd op dx dy) ≤ 4) → (x y : ℤ) (cs : List Cmd)
     → length (written cmd x y cs) ≤ 4 * length cs
 unfolding written
 written-length cmd h x y [] = omega arith
 written-length cmd h x y (c ∷ cs) =
     simp length-append (omega (arith, h (opOf (c .kind)) (c .x -ℤ x) (c .y -ℤ y), written-length cmd h (c .x) (c .y) cs))
 
-exp-four-bytes : (op : Op) (dx dy : ℤ) → length (expCmd op dx dy) ≤ 4
+pub exp-four-bytes : (op : Op) (dx dy : ℤ) → length (expCmd op dx dy) ≤ 4
 unfolding expCmd pairOf
 exp-four-bytes Stitch dx dy = omega arith
 exp-four-bytes Jump dx dy = omega arith
@@ -233,7 +233,7 @@ exp-four-bytes Trim dx dy = omega arith
 exp-four-bytes ColorChange dx dy = omega arith
 exp-four-bytes End dx dy = omega arith
 
-jef-four-bytes : (op : Op) (dx dy : ℤ) → length (jefCmd op dx dy) ≤ 4
+pub jef-four-bytes : (op : Op) (dx dy : ℤ) → length (jefCmd op dx dy) ≤ 4
 unfolding jefCmd pairOf
 jef-four-bytes Stitch dx dy = omega arith
 jef-four-bytes Jump dx dy = omega arith

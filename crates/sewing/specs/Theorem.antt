@@ -35,7 +35,7 @@ readSewing f s = fileSewing (placesOf f s) (runsOf f s) (blocksOf f s)
 
 -- ---- what acceptance says of sizes
 
-few : (f : Format) (xs ys : List ℤ) (kinds threads : List ℕ) → Taken f xs ys kinds threads → Few (commands xs ys kinds) threads
+pub few : (f : Format) (xs ys : List ℤ) (kinds threads : List ℕ) → Taken f xs ys kinds threads → Few (commands xs ys kinds) threads
 unfolding tooMany
 few f xs ys kinds threads t =
     let s = shape-of f xs ys kinds (t .shape) in

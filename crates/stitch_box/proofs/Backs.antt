@@ -5,35 +5,26 @@ use mathlib.Core.List.{List, _++_}
 use native.Mathlib.Omega.{arith}
 use lib.IntN.{ℤ}
 use lib.ListN.{length, take, drop, length-append, length-take}
-use Rattle.rules.specs.Files.{fileOf, readVerdict, placesTold, runsTold, blocksTold, countsOf, readAnswer, filled, fileTold, writeVerdict, writeAnswer, writeLength}
+use Rattle.rules.specs.Files.{fileOf, readVerdict, countsOf, readAnswer, readNumber, readCounts, filled, fileTold, writeVerdict, writeAnswer, writeLength}
 use Rattle.rules.specs.Lists.{commands}
-use Rattle.rules.specs.Refusals.{extensionOf, listVerdict}
+use Rattle.rules.specs.Promises.{Wrote, ReadOf, Room, WroteAndRead, orThen, roundTripAnswer, roundTripNumber, roundTripCounts}
+use Rattle.rules.specs.Refusals.{listVerdict}
+use Rattle.rules.specs.declared.Counts.{Counts}
+use Rattle.rules.specs.declared.Extension.{Extension}
 use Rattle.rules.specs.declared.Extension.the-variants.{Of}
 use Rattle.rules.specs.declared.Format.{Format}
 use Rattle.rules.specs.declared.ReadAnswer.{ReadAnswer}
+use Rattle.rules.specs.declared.ReadAnswer.the-variants.{Read, Unread}
 use Rattle.rules.specs.declared.Refusal.{Refusal}
+use Rattle.rules.specs.declared.RoundTripAnswer.{RoundTripAnswer}
+use Rattle.rules.specs.declared.RoundTripAnswer.the-variants.{NotWritten}
 use Rattle.rules.specs.declared.Verdict.{Verdict}
 use Rattle.rules.specs.declared.Verdict.the-variants.{Accepted, Refused}
 use Rattle.rules.specs.declared.WriteAnswer.{WriteAnswer}
 use Rattle.rules.specs.declared.WriteAnswer.the-variants.{Written, Unwritten}
 use Rattle.laws.specs.Verdicts.{never-both}
-use Rattle.sewing.specs.Calls.{Wrote, ReadOf, Room, RoundTrip, front, write-accepts, sewn}
-use Rattle.stitch_box.specs.Back.{orThen, bothVerdict, Keeps}
-
--- ---- what the calls ensure, by name
-
-pub as-wrote : (ext name : List ℕ) (xs ys : List ℤ) (kinds threads d : List ℕ) {d′ : List ℕ} {w : WriteAnswer}
-    → (w ≡ writeAnswer (writeVerdict (extensionOf ext) name xs ys kinds threads (length d)) (length (fileTold (extensionOf ext) name (commands xs ys kinds) threads)))
-    × (d′ ≡ filled (writeVerdict (extensionOf ext) name xs ys kinds threads (length d)) (fileTold (extensionOf ext) name (commands xs ys kinds) threads) d)
-    → Wrote ext name xs ys kinds threads d d′ w
-as-wrote ext name xs ys kinds threads d w = record { told = w .0; stored = w .1 }
-
-pub as-read : (ext file : List ℕ) (ps : List ℤ) (rs bs : List ℕ) {ps′ : List ℤ} {rs′ bs′ : List ℕ} {r : ReadAnswer}
-    → (let v = readVerdict (extensionOf ext) file (length ps) (length rs) (length bs) in
-    (r ≡ readAnswer v (countsOf (placesTold (extensionOf ext) file) (runsTold (extensionOf ext) file) (blocksTold (extensionOf ext) file)))
-    × ((ps′ ≡ filled v (placesTold (extensionOf ext) file) ps) × ((rs′ ≡ filled v (runsTold (extensionOf ext) file) rs) × (bs′ ≡ filled v (blocksTold (extensionOf ext) file) bs))))
-    → ReadOf ext file ps ps′ rs rs′ bs bs′ r
-as-read ext file ps rs bs q = record { told = q .0; places = q .1 .0; runs = q .1 .1 .0; blocks = q .1 .1 .1 }
+use Rattle.sewing.specs.Calls.{RoundTrip, front, write-accepts, sewn}
+use Rattle.stitch_box.specs.Back.{backAnswer, ReadBackOf}
 
 -- ---- what an answer says of the verdict
 
@@ -57,18 +48,35 @@ unfolding writeAnswer
 if-unwritten Accepted len why e = absurd (apart (sym e))
 if-unwritten (Refused r) len why e = sym (why-of e)
 
-module _ (ext name : List ℕ) (xs ys : List ℤ) (kinds threads d d′ : List ℕ) {w : WriteAnswer} (p : Wrote ext name xs ys kinds threads d d′ w) where
+-- ---- an answer of both calls
+
+number-back : (n : ℕ) (r : ReadAnswer) → roundTripNumber (backAnswer n r) ≡ readNumber r
+unfolding roundTripNumber backAnswer readNumber
+number-back n (Read c) = refl
+number-back n (Unread why) = refl
+
+counts-back : (n : ℕ) (r : ReadAnswer) → roundTripCounts (backAnswer n r) ≡ readCounts r
+unfolding roundTripCounts backAnswer readCounts
+counts-back n (Read c) = refl
+counts-back n (Unread why) = refl
+
+answer-back : (n : ℕ) (v : Verdict) (c : Counts) {len : ℕ} → n ≡ len → backAnswer n (readAnswer v c) ≡ roundTripAnswer Accepted v len c
+unfolding backAnswer readAnswer roundTripAnswer
+answer-back n Accepted c e = rw e
+answer-back n (Refused r) c e = rw e
+
+module _ {e : Extension} {name : List ℕ} {xs ys : List ℤ} {kinds threads d d′ : List ℕ} {w : WriteAnswer} (p : Wrote e name xs ys kinds threads d d′ w) where
   abbrev says : Verdict
-  says = writeVerdict (extensionOf ext) name xs ys kinds threads (length d)
+  says = writeVerdict e name xs ys kinds threads (length d)
 
   abbrev file : List ℕ
-  file = fileTold (extensionOf ext) name (commands xs ys kinds) threads
+  file = fileTold e name (commands xs ys kinds) threads
 
   -- ---- the list is written
 
-  module _ {n : ℕ} (e : w ≡ Written n) where
+  module _ {n : ℕ} (is : w ≡ Written n) where
     accepted : (says ≡ Accepted) × (n ≡ length file)
-    accepted = if-written says (length file) n (sym e ∙ p .told)
+    accepted = if-written says (length file) n (sym is ∙ p .answered)
 
     held : d′ ≡ file ++ drop (length file) d
     unfolding filled
@@ -86,21 +94,21 @@ module _ (ext name : List ℕ) (xs ys : List ℤ) (kinds threads d d′ : List �
     -- as the write's length tells it
     told-length : take (writeLength w) d′ ≡ take n d′
     unfolding writeLength
-    told-length = rw e
+    told-length = rw is
 
-    module _ (ps ps′ : List ℤ) (rs rs′ bs bs′ : List ℕ) {r : ReadAnswer} (q : ReadOf ext (take n d′) ps ps′ rs rs′ bs bs′ r) where
-      pub read-too : ReadOf ext file ps ps′ rs rs′ bs bs′ r
-      read-too = rw the-file at q
+    module _ {ps : List ℤ} {rs bs : List ℕ} {ps′ : List ℤ} {rs′ bs′ : List ℕ} {a : RoundTripAnswer} (q : ReadBackOf e n (take n d′) ps rs bs ps′ rs′ bs′ a) where
+      abbrev reading : Verdict
+      reading = readVerdict e file (length ps) (length rs) (length bs)
 
-      pub then-read : bothVerdict ext name xs ys kinds threads (length d) (length ps) (length rs) (length bs) ≡ readVerdict (extensionOf ext) file (length ps) (length rs) (length bs)
-      unfolding bothVerdict orThen
-      then-read = rw (accepted .0)
+      -- the read was of the file
+      read-too : ReadOf e file ps rs bs ps′ rs′ bs′ (q .answer)
+      read-too = rw the-file at (q .read)
 
       -- both calls together
-      abbrev trip : (f : Format) → extensionOf ext ≡ Of f → listVerdict f xs ys kinds threads ≡ Accepted → Room f (fileOf f name (commands xs ys kinds) threads) d ps rs bs → RoundTrip
+      abbrev trip : (f : Format) → e ≡ Of f → listVerdict f xs ys kinds threads ≡ Accepted → Room f (fileOf f name (commands xs ys kinds) threads) d ps rs bs → RoundTrip
       trip f n a m = record {
         format = f;
-        ext = ext;
+        extension = e;
         name = name;
         xs = xs;
         ys = ys;
@@ -115,32 +123,51 @@ module _ (ext name : List ℕ) (xs ys : List ℤ) (kinds threads d d′ : List �
         bs = bs;
         bs′ = bs′;
         w = w;
-        r = r;
+        r = q .answer;
         named = n;
         accepted = a;
         room = m;
         wrote = p;
-        reads = rw (← told-length) at q;
+        read-back = rw (← told-length) at (q .read);
       }
 
-      pub keeps : Keeps ext name xs ys kinds threads d ps rs bs r ps′ rs′ bs′
-      keeps = record {
-        answered = λ f n a m. sewn (trip f n a m) .read;
-        sewn = λ f n a m. sewn (trip f n a m) .same;
+      -- the read back, in the answer of both
+      as-read : roundTripNumber a ≡ readNumber (q .answer)
+      as-read = ap roundTripNumber (q .told) ∙ number-back n (q .answer)
+
+      as-counted : roundTripCounts a ≡ readCounts (q .answer)
+      as-counted = ap roundTripCounts (q .told) ∙ counts-back n (q .answer)
+
+      pub both : WroteAndRead e name xs ys kinds threads d ps rs bs d′ ps′ rs′ bs′ a
+      unfolding orThen roundTripAnswer
+      both = record {
+        answered = q .told ∙ ap (backAnswer n) (read-too .answered) ∙ rw (accepted .0) (answer-back n reading _ (accepted .1));
+        stored = p .stored;
+        places-are = read-too .places-are ∙ rw (accepted .0);
+        runs-are = read-too .runs-are ∙ rw (accepted .0);
+        blocks-are = read-too .blocks-are ∙ rw (accepted .0);
+        keeps = record {
+          unrefused = λ f n a m. as-read ∙ sewn (trip f n a m) .read;
+          sewn = λ f n a m. rw as-counted (sewn (trip f n a m) .same);
+        };
       }
 
   -- ---- the list is refused
 
-  module _ {why : Refusal} (e : w ≡ Unwritten why) where
+  module _ {why : Refusal} (is : w ≡ Unwritten why) where
     refused : says ≡ Refused why
-    refused = if-unwritten says (length file) why (sym e ∙ p .told)
+    refused = if-unwritten says (length file) why (sym is ∙ p .answered)
 
-    pub stopped : (i j k : ℕ) → bothVerdict ext name xs ys kinds threads (length d) i j k ≡ Refused why
-    unfolding bothVerdict orThen
-    stopped i j k = rw refused
-
-    pub keeps-none : (ps ps′ : List ℤ) (rs rs′ bs bs′ : List ℕ) (r : ReadAnswer) → Keeps ext name xs ys kinds threads d ps rs bs r ps′ rs′ bs′
-    keeps-none ps ps′ rs rs′ bs bs′ r = record {
-      answered = λ f n a m. absurd (never-both (sym refused ∙ write-accepts f ext name xs ys kinds threads (length d) n a (m .bytes)));
-      sewn = λ f n a m. absurd (never-both (sym refused ∙ write-accepts f ext name xs ys kinds threads (length d) n a (m .bytes)));
+    pub none : (ps : List ℤ) (rs bs : List ℕ) → WroteAndRead e name xs ys kinds threads d ps rs bs d′ ps rs bs (NotWritten why)
+    unfolding orThen roundTripAnswer filled
+    none ps rs bs = record {
+      answered = rw refused;
+      stored = p .stored;
+      places-are = rw refused;
+      runs-are = rw refused;
+      blocks-are = rw refused;
+      keeps = record {
+        unrefused = λ f n a m. absurd (never-both (sym refused ∙ write-accepts f e name xs ys kinds threads (length d) n a (m .bytes)));
+        sewn = λ f n a m. absurd (never-both (sym refused ∙ write-accepts f e name xs ys kinds threads (length d) n a (m .bytes)));
+      };
     }

@@ -1,4 +1,4 @@
-// The calls of the box. What each promises is told for every input; see specs/Files.antt and specs/Refusals.antt of crate rules.
+// The calls of the box. What each promises is a record of specs/Promises.antt of crate rules, for every input.
 use dst::dst_from_stream;
 use formats::extension_of;
 use more::exp::write_exp;
@@ -9,16 +9,18 @@ use rules::Extension;
 use rules::Format;
 use rules::ReadAnswer;
 use rules::Refusal;
+use rules::RoundTripAnswer;
 use rules::WriteAnswer;
 ghost use mathlib.Core.Path.{_≡_};
-ghost use lib.ListN.{length};
-ghost use Rattle.rules.specs.Files.{fileOf, readVerdict, placesTold, runsTold, blocksTold, countsOf, readAnswer, filled, fileTold, writeVerdict, writeAnswer, labelTold};
-ghost use Rattle.rules.specs.Lists.{commands};
+ghost use Prim.Native.Nat.{_≤_, min};
+ghost use Rattle.rules.specs.Files.{labelTold};
+ghost use Rattle.rules.specs.Promises.{was, left, Wrote, boundOf, boundTold, ReadOf, WroteAndRead};
 ghost use Rattle.rules.specs.Refusals.{extensionOf};
 ghost use Rattle.rules.specs.declared.Extension.the-variants.{Of};
-ghost use Rattle.stitch_box.specs.Back.{bothVerdict, Keeps};
+ghost use Rattle.stitch_box.specs.Back.{ReadBackOf};
 
-fn write_stitch_file(
+// `write` in a format that is known.
+pub fn write_stitch_file(
     f: Format,
     name: &[u8],
     xs: &[i32],
@@ -27,8 +29,7 @@ fn write_stitch_file(
     threads: &[u8],
     out: &mut [u8],
 ) -> WriteAnswer
-    ensures { λ r. ⌜ r ≡ writeAnswer (writeVerdict (Of f) (now (name .entry)) (now (xs .entry)) (now (ys .entry)) (now (kinds .entry)) (now (threads .entry)) (length (now (out .entry)))) (length (fileOf f (now (name .entry)) (commands (now (xs .entry)) (now (ys .entry)) (now (kinds .entry))) (now (threads .entry)))) ⌝ }
-    ensures { λ _. ⌜ now (out .exit) ≡ filled (writeVerdict (Of f) (now (name .entry)) (now (xs .entry)) (now (ys .entry)) (now (kinds .entry)) (now (threads .entry)) (length (now (out .entry)))) (fileOf f (now (name .entry)) (commands (now (xs .entry)) (now (ys .entry)) (now (kinds .entry))) (now (threads .entry))) (now (out .entry)) ⌝ }
+    ensures { λ w. ⌜ Wrote (Of f) (was name) (was xs) (was ys) (was kinds) (was threads) (was out) (left out) w ⌝ }
 {
     match f {
         Format::Pes => pes_from_stream(name, xs, ys, kinds, threads, out),
@@ -50,14 +51,48 @@ pub fn write(
     threads: &[u8],
     out: &mut [u8],
 ) -> WriteAnswer
-    ensures { λ r. ⌜ r ≡ writeAnswer (writeVerdict (extensionOf (now (ext .entry))) (now (name .entry)) (now (xs .entry)) (now (ys .entry)) (now (kinds .entry)) (now (threads .entry)) (length (now (out .entry)))) (length (fileTold (extensionOf (now (ext .entry))) (now (name .entry)) (commands (now (xs .entry)) (now (ys .entry)) (now (kinds .entry))) (now (threads .entry)))) ⌝ }
-    ensures { λ _. ⌜ now (out .exit) ≡ filled (writeVerdict (extensionOf (now (ext .entry))) (now (name .entry)) (now (xs .entry)) (now (ys .entry)) (now (kinds .entry)) (now (threads .entry)) (length (now (out .entry)))) (fileTold (extensionOf (now (ext .entry))) (now (name .entry)) (commands (now (xs .entry)) (now (ys .entry)) (now (kinds .entry))) (now (threads .entry))) (now (out .entry)) ⌝ }
+    ensures { λ w. ⌜ Wrote (extensionOf (was ext)) (was name) (was xs) (was ys) (was kinds) (was threads) (was out) (left out) w ⌝ }
 {
     let named = extension_of(ext);
     let Extension::Of(f) = named else {
         return WriteAnswer::Unwritten(Refusal::UnknownExtension);
     };
     write_stitch_file(f, name, xs, ys, kinds, threads, out)
+}
+
+fn at_most(n: usize, most: usize) -> usize
+    ensures { λ r. ⌜ r ≡ min n most ⌝ }
+{
+    if n < most {
+        return n;
+    }
+    most
+}
+
+fn bound_of(f: Format, n: usize, t: usize) -> usize
+    requires { ⌜ (n ≤ 65535) × (t ≤ 255) ⌝ }
+    ensures { λ r. ⌜ r ≡ boundOf f n t ⌝ }
+{
+    let pictures = 228 * at_most(n, 254);
+    match f {
+        Format::Pes => 1094 + 26 * n + pictures,
+        Format::Pec => 992 + 6 * n + pictures,
+        Format::Dst => 512 + 9 * n,
+        Format::Exp => 4 * n,
+        Format::Jef => 124 + 4 * n + 8 * t,
+    }
+}
+
+// Cells that hold the file of any list of so many commands and threads that `write` takes under an extension; 0 under an unknown one.
+// Longer lists and more threads are refused, and count as the most that are taken.
+pub fn write_bound(ext: &[u8], commands: usize, threads: usize) -> usize
+    ensures { λ r. ⌜ r ≡ boundTold (extensionOf (was ext)) commands threads ⌝ }
+{
+    let named = extension_of(ext);
+    let Extension::Of(f) = named else {
+        return 0;
+    };
+    bound_of(f, at_most(commands, 65535), at_most(threads, 255))
 }
 
 // Reads a file by its extension into three buffers: counts, and cells behind the answers stay; or why it is refused, and the buffers as
@@ -69,23 +104,39 @@ pub fn read(
     runs: &mut [u32],
     blocks: &mut [u32],
 ) -> ReadAnswer
-    ensures { λ r. ⌜ r ≡ readAnswer (readVerdict (extensionOf (now (ext .entry))) (now (file .entry)) (length (now (places .entry))) (length (now (runs .entry))) (length (now (blocks .entry)))) (countsOf (placesTold (extensionOf (now (ext .entry))) (now (file .entry))) (runsTold (extensionOf (now (ext .entry))) (now (file .entry))) (blocksTold (extensionOf (now (ext .entry))) (now (file .entry)))) ⌝ }
-    ensures { λ _. ⌜ now (places .exit) ≡ filled (readVerdict (extensionOf (now (ext .entry))) (now (file .entry)) (length (now (places .entry))) (length (now (runs .entry))) (length (now (blocks .entry)))) (placesTold (extensionOf (now (ext .entry))) (now (file .entry))) (now (places .entry)) ⌝ }
-    ensures { λ _. ⌜ now (runs .exit) ≡ filled (readVerdict (extensionOf (now (ext .entry))) (now (file .entry)) (length (now (places .entry))) (length (now (runs .entry))) (length (now (blocks .entry)))) (runsTold (extensionOf (now (ext .entry))) (now (file .entry))) (now (runs .entry)) ⌝ }
-    ensures { λ _. ⌜ now (blocks .exit) ≡ filled (readVerdict (extensionOf (now (ext .entry))) (now (file .entry)) (length (now (places .entry))) (length (now (runs .entry))) (length (now (blocks .entry)))) (blocksTold (extensionOf (now (ext .entry))) (now (file .entry))) (now (blocks .entry)) ⌝ }
+    ensures { λ r. ⌜ ReadOf (extensionOf (was ext)) (was file) (was places) (was runs) (was blocks) (left places) (left runs) (left blocks) r ⌝ }
 {
     read::read(ext, file, places, runs, blocks)
 }
 
 // The label of a file, as a part of it: empty for EXP and JEF, and under every refusal of reading but 11.
 pub fn label<'a>(ext: &[u8], file: &'a [u8]) -> &'a [u8]
-    ensures { λ r. ⌜ now r ≡ labelTold (extensionOf (now (ext .entry))) (now (file .entry)) ⌝ }
+    ensures { λ r. ⌜ now r ≡ labelTold (extensionOf (was ext)) (was file) ⌝ }
 {
     front::label(ext, file)
 }
 
-// Writes a list, and reads the file back under the same extension. For a list that is accepted, and buffers long enough, neither
-// refuses, and the sewing read is the list's own.
+// The read of a file that has been written with n bytes.
+fn read_back(
+    n: usize,
+    ext: &[u8],
+    file: &[u8],
+    places: &mut [i32],
+    runs: &mut [u32],
+    blocks: &mut [u32],
+) -> RoundTripAnswer
+    ensures { λ a. ⌜ ReadBackOf (extensionOf (was ext)) n (was file) (was places) (was runs) (was blocks) (left places) (left runs) (left blocks) a ⌝ }
+{
+    let told = read(ext, file, places, runs, blocks);
+    match told {
+        ReadAnswer::Read(c) => RoundTripAnswer::ReadBack(n, c),
+        ReadAnswer::Unread(why) => RoundTripAnswer::NotRead(n, why),
+    }
+}
+
+// Writes a list, and reads the file back under the same extension. A list that is not written changes nothing; a file that is not read
+// stands, and the three answer buffers are as they were. For a list that is accepted, and buffers long enough, neither refuses, and the
+// sewing read is the list's own.
 pub fn write_and_read(
     ext: &[u8],
     name: &[u8],
@@ -97,17 +148,13 @@ pub fn write_and_read(
     places: &mut [i32],
     runs: &mut [u32],
     blocks: &mut [u32],
-) -> ReadAnswer
-    ensures { λ r. ⌜ r ≡ readAnswer (bothVerdict (now (ext .entry)) (now (name .entry)) (now (xs .entry)) (now (ys .entry)) (now (kinds .entry)) (now (threads .entry)) (length (now (file .entry))) (length (now (places .entry))) (length (now (runs .entry))) (length (now (blocks .entry)))) (countsOf (placesTold (extensionOf (now (ext .entry))) (fileTold (extensionOf (now (ext .entry))) (now (name .entry)) (commands (now (xs .entry)) (now (ys .entry)) (now (kinds .entry))) (now (threads .entry)))) (runsTold (extensionOf (now (ext .entry))) (fileTold (extensionOf (now (ext .entry))) (now (name .entry)) (commands (now (xs .entry)) (now (ys .entry)) (now (kinds .entry))) (now (threads .entry)))) (blocksTold (extensionOf (now (ext .entry))) (fileTold (extensionOf (now (ext .entry))) (now (name .entry)) (commands (now (xs .entry)) (now (ys .entry)) (now (kinds .entry))) (now (threads .entry))))) ⌝ }
-    ensures { λ _. ⌜ now (file .exit) ≡ filled (writeVerdict (extensionOf (now (ext .entry))) (now (name .entry)) (now (xs .entry)) (now (ys .entry)) (now (kinds .entry)) (now (threads .entry)) (length (now (file .entry)))) (fileTold (extensionOf (now (ext .entry))) (now (name .entry)) (commands (now (xs .entry)) (now (ys .entry)) (now (kinds .entry))) (now (threads .entry))) (now (file .entry)) ⌝ }
-    ensures { λ _. ⌜ now (places .exit) ≡ filled (bothVerdict (now (ext .entry)) (now (name .entry)) (now (xs .entry)) (now (ys .entry)) (now (kinds .entry)) (now (threads .entry)) (length (now (file .entry))) (length (now (places .entry))) (length (now (runs .entry))) (length (now (blocks .entry)))) (placesTold (extensionOf (now (ext .entry))) (fileTold (extensionOf (now (ext .entry))) (now (name .entry)) (commands (now (xs .entry)) (now (ys .entry)) (now (kinds .entry))) (now (threads .entry)))) (now (places .entry)) ⌝ }
-    ensures { λ _. ⌜ now (runs .exit) ≡ filled (bothVerdict (now (ext .entry)) (now (name .entry)) (now (xs .entry)) (now (ys .entry)) (now (kinds .entry)) (now (threads .entry)) (length (now (file .entry))) (length (now (places .entry))) (length (now (runs .entry))) (length (now (blocks .entry)))) (runsTold (extensionOf (now (ext .entry))) (fileTold (extensionOf (now (ext .entry))) (now (name .entry)) (commands (now (xs .entry)) (now (ys .entry)) (now (kinds .entry))) (now (threads .entry)))) (now (runs .entry)) ⌝ }
-    ensures { λ _. ⌜ now (blocks .exit) ≡ filled (bothVerdict (now (ext .entry)) (now (name .entry)) (now (xs .entry)) (now (ys .entry)) (now (kinds .entry)) (now (threads .entry)) (length (now (file .entry))) (length (now (places .entry))) (length (now (runs .entry))) (length (now (blocks .entry)))) (blocksTold (extensionOf (now (ext .entry))) (fileTold (extensionOf (now (ext .entry))) (now (name .entry)) (commands (now (xs .entry)) (now (ys .entry)) (now (kinds .entry))) (now (threads .entry)))) (now (blocks .entry)) ⌝ }
-    ensures { λ r. ⌜ Keeps (now (ext .entry)) (now (name .entry)) (now (xs .entry)) (now (ys .entry)) (now (kinds .entry)) (now (threads .entry)) (now (file .entry)) (now (places .entry)) (now (runs .entry)) (now (blocks .entry)) r (now (places .exit)) (now (runs .exit)) (now (blocks .exit)) ⌝ }
+) -> RoundTripAnswer
+    ensures { λ a. ⌜ WroteAndRead (extensionOf (was ext)) (was name) (was xs) (was ys) (was kinds) (was threads)
+        (was file) (was places) (was runs) (was blocks) (left file) (left places) (left runs) (left blocks) a ⌝ }
 {
     let written = write(ext, name, xs, ys, kinds, threads, file);
     match written {
-        WriteAnswer::Written(n) => read(ext, &file[..n], places, runs, blocks),
-        WriteAnswer::Unwritten(why) => ReadAnswer::Unread(why),
+        WriteAnswer::Written(n) => read_back(n, ext, &file[..n], places, runs, blocks),
+        WriteAnswer::Unwritten(why) => RoundTripAnswer::NotWritten(why),
     }
 }

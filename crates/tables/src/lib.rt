@@ -1,4 +1,5 @@
 // Thumbnails of long lists: the pixels of all places between the bounds are worked out once, and each stitch looks its own up.
+// A port of src/formats/pes.rs of zigzag, changed.
 use emit::put_text;
 use emit::put_times;
 use formats::list_len;

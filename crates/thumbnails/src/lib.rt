@@ -1,4 +1,5 @@
 // PEC's thumbnails: 38 rows of 6 bytes, the lowest bit leftmost.
+// A port of src/formats/pes.rs of zigzag, changed.
 use emit::put_text;
 use emit::spread;
 use formats::list_len;

@@ -46,7 +46,6 @@ use denote.Triple.Spec.{Meets, tripleOf}
 use denote.Triple.Table.{entered}
 use denote.Triple.Walked.{says, needs, Stays, stay-none, stay-none-slice, stay-slice, walkOf, goes-none, goes-none-slice, goes-slice, Walks, ends-at, walked, walk-meets}
 use denote.Exit.{yes}
-use Rattle.cmds.specs.Records.{xOf, yOf, kindOf}
 use Rattle.laws.specs.Listing.{noCmd}
 use Rattle.rules.specs.declared.Cmd.{Cmd}
 use Rattle.cmds.proofs.Turns.{Turn, Nearer, nearer-ends, next-field, one-on, byte4, byte12, counts-on, inside, not-all}
@@ -61,6 +60,16 @@ use Rattle.cmds.proofs.unpack.Code.Mir as body
 
 abbrev stayed : Stays (f.ended .signature .params) (f.ended .kept)
 stayed = (stay-none-slice (0 ∷ []) tt (plain (λ _. T.the-row)) yes, (stay-none (λ _. usize) yes, (stay-slice (1 ∷ []) tt (plain (λ _. i32)), (stay-slice (2 ∷ []) tt (plain (λ _. i32)), (stay-slice (3 ∷ []) tt (plain (λ _. u8)), tt)))))
+
+-- what is stored of a command
+abbrev xOf : Cmd → ℤ
+xOf c = c .x
+
+abbrev yOf : Cmd → ℤ
+yOf c = c .y
+
+abbrev kindOf : Cmd → ℕ
+kindOf c = c .kind
 
 -- a command as the machine has it
 abbrev machine : Cmd → Val

@@ -1,4 +1,4 @@
--- `split` is safe. Assumes nothing.
+-- `split` is safe, and answers a place within the buffer. Assumes nothing.
 use lib.ListN.{length-take}
 use native.Mathlib.Omega.{arith}
 use borrow.Author.Needs.{needs}

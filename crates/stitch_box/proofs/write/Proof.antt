@@ -17,7 +17,7 @@ enum-told c = search needs
 
 returns : tie.Need-returns
 unfolding writeVerdict verdict writeAnswer filled
-returns c = let v = sym (c .before .before .extension-of .ensures) ∙ c .enum-told .given .1 in (rw v, rw v)
+returns c = let v = sym (c .before .before .extension-of .ensures) ∙ c .enum-told .given .1 in record { answered = rw v; stored = rw v }
 
 write-stitch-file-requires : tie.Need-write-stitch-file-requires
 write-stitch-file-requires c κs = search needs

@@ -1,5 +1,5 @@
 -- By the format.
-use Rattle.rules.specs.Files.{fileOf, writeVerdict}
+use Rattle.rules.specs.Files.{fileOf, fileTold, writeVerdict}
 use borrow.Author.Needs.{needs}
 use Rattle.stitch_box.proofs.write_stitch_file.Statement.{statement}
 use Rattle.stitch_box.proofs.write_stitch_file.Tie as tie
@@ -38,33 +38,36 @@ same-length : tie.Need-same-length
 same-length c = search needs
 
 returns : tie.Need-returns
-returns c = rw (c .before .before .before .before .enum-told .given .1) (c .before .before .pes-from-stream .ensures)
+unfolding fileTold
+returns c = let e = c .before .before .before .before .enum-told .given .1 in let w = c .before .before .pes-from-stream .ensures in record { answered = rw e (w .0); stored = rw e (w .1) }
 
 same-length-2 : tie.Need-same-length-2
 same-length-2 c = search needs
 
 returns-2 : tie.Need-returns-2
-returns-2 c = rw (c .before .before .before .before .enum-told2 .given .1) (c .before .before .write-pec-file .ensures)
+unfolding fileTold
+returns-2 c = let e = c .before .before .before .before .enum-told2 .given .1 in let w = c .before .before .write-pec-file .ensures in record { answered = rw e (w .0); stored = rw e (w .1) }
 
 same-length-3 : tie.Need-same-length-3
 same-length-3 c = search needs
 
 returns-3 : tie.Need-returns-3
-returns-3 c = rw (c .before .before .before .before .enum-told3 .given .1) (c .before .before .dst-from-stream .ensures)
+unfolding fileTold
+returns-3 c = let e = c .before .before .before .before .enum-told3 .given .1 in let w = c .before .before .dst-from-stream .ensures in record { answered = rw e (w .0); stored = rw e (w .1) }
 
 same-length-4 : tie.Need-same-length-4
 same-length-4 c = search needs
 
 returns-4 : tie.Need-returns-4
-unfolding writeVerdict fileOf
-returns-4 c = rw (c .before .before .before .before .enum-told4 .given .1) (c .before .before .write-exp .ensures)
+unfolding writeVerdict fileOf fileTold
+returns-4 c = let e = c .before .before .before .before .enum-told4 .given .1 in let w = c .before .before .write-exp .ensures in record { answered = rw e (w .0); stored = rw e (w .1) }
 
 same-length-5 : tie.Need-same-length-5
 same-length-5 c = search needs
 
 returns-5 : tie.Need-returns-5
-unfolding writeVerdict fileOf
-returns-5 c = rw (c .before .before .before .before .enum-told5 .given .1) (c .before .before .write-jef .ensures)
+unfolding writeVerdict fileOf fileTold
+returns-5 c = let e = c .before .before .before .before .enum-told5 .given .1 in let w = c .before .before .write-jef .ensures in record { answered = rw e (w .0); stored = rw e (w .1) }
 
 pub write-stitch-file-spec : {M : Type 1} → statement M
 write-stitch-file-spec =

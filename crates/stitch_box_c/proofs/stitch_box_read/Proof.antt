@@ -1,48 +1,26 @@
--- The length of the counts, and then the read.
-use borrow.Author.Tests.{eq-eqb, ne-eqb}
-use denote.Ref.{now}
-use lib.ListN.{length}
+-- What `read` answers, in numbers.
+use mathlib.Core.Path.{ap}
+use Rattle.rules.specs.declared.Counts.{Counts}
 use borrow.Author.Needs.{needs}
 use Rattle.stitch_box_c.proofs.stitch_box_read.Statement.{statement}
 use Rattle.stitch_box_c.proofs.stitch_box_read.Tie as tie
 
 returns : tie.Need-returns
-returns c = let v = ne-eqb (length (now (c .before .before .before .before .before .before .args .counts))) 4 (c .if1 .taken) in (rw v, (rw v, (rw v, (rw v, rw v))))
-
-read-requires : tie.Need-read-requires
-read-requires c κs = search needs
-
-put-answer-requires : tie.Need-put-answer-requires
-put-answer-requires c κs = search needs
-
-same-length : tie.Need-same-length
-same-length c = search needs
-
-same-length-2 : tie.Need-same-length-2
-same-length-2 c = search needs
-
-same-length-3 : tie.Need-same-length-3
-same-length-3 c = search needs
-
-same-length-4 : tie.Need-same-length-4
-same-length-4 c = search needs
-
-returns-2 : tie.Need-returns-2
-returns-2 c =
-    let v = eq-eqb (length (now (c .before .before .before .before .before .before .before .before .before .before .before .before .before .before .before .before .before .before .before .args .counts))) 4 (c .before .before .before .before .before .before .before .before .before .before .before .before .before .if1 .left) in
-    let r = c .before .before .before .before .before .before .before .before .before .read .ensures in
-    let w = c .before .before .put-answer .ensures in
-    (rw (v, w .0, r .0), (rw (v, r .1 .0), (rw (v, r .1 .1 .0), (rw (v, r .1 .1 .1), rw (v, w .1, r .0)))))
+returns c =
+    let e = c .before .counts-of .ensures in
+    record {
+      answer = _;
+      read = c .before .before .before .before .before .before .before .read .ensures;
+      number = c .read-number .ensures;
+      point-count = ap (λ (k : Counts). k .points) e;
+      run-count = ap (λ (k : Counts). k .runs) e;
+      block-count = ap (λ (k : Counts). k .blocks) e;
+      cut-count = ap (λ (k : Counts). k .cuts) e;
+    }
 
 pub stitch-box-read-spec : {M : Type 1} → statement M
 stitch-box-read-spec =
     tie.close
     (tie.spec
-    returns
-    read-requires
-    put-answer-requires
-    same-length
-    same-length-2
-    same-length-3
-    same-length-4
-    returns-2)
+    (λ c κs. search needs) (λ c κs. search needs) (λ c κs. search needs)
+    (λ c. search needs) (λ c. search needs) (λ c. search needs) returns)

@@ -1,4 +1,4 @@
--- `label` is safe and ends. Assumes nothing.
+-- `label` is safe, ends, and answers a place within the buffer. Assumes nothing.
 use Prim.Native.Nat.{_≤_, _-_}
 use lib.ListN.{length}
 use borrow.Author.Needs.{needs}
@@ -6,16 +6,16 @@ use Rattle.runs.proofs.show.label.Statement.{statement}
 use Rattle.runs.proofs.show.label.Tie as tie
 
 abbrev Inv-loop : tie.InvT-loop
-Inv-loop s i₀ t4 i = (i ≤ length s)
+Inv-loop out₀ at s to₀ i₀ t7 out to i = (i ≤ length s) × (to ≤ 65536)
 
 abbrev μ-loop : tie.MeasureT-loop
-μ-loop s i₀ t4 i = length s - i
+μ-loop out₀ at s to₀ i₀ t7 out to i = length s - i
 
-slice-aggregate-text : tie.Need-slice-aggregate-text Inv-loop μ-loop
-slice-aggregate-text c = search needs
+slice-aggregate-put-text : tie.Need-slice-aggregate-put-text Inv-loop μ-loop
+slice-aggregate-put-text c = search needs
 
-text-requires : tie.Need-text-requires Inv-loop μ-loop
-text-requires c κs = search needs
+put-text-requires : tie.Need-put-text-requires Inv-loop μ-loop
+put-text-requires c κs = search needs
 
 loop-holds : tie.Need-loop-holds Inv-loop μ-loop
 loop-holds c = search needs
@@ -26,8 +26,8 @@ shared-slice-read-visible c = search needs
 visible-requires : tie.Need-visible-requires Inv-loop μ-loop
 visible-requires c κs = search needs
 
-byte-requires : tie.Need-byte-requires Inv-loop μ-loop
-byte-requires c κs = search needs
+put-byte-requires : tie.Need-put-byte-requires Inv-loop μ-loop
+put-byte-requires c κs = search needs
 
 add-i : tie.Need-add-i Inv-loop μ-loop
 add-i c = search needs
@@ -38,11 +38,11 @@ loop-less c = search needs
 loop-again : tie.Need-loop-again Inv-loop μ-loop
 loop-again c = search needs
 
-slice-aggregate-text-2 : tie.Need-slice-aggregate-text-2 Inv-loop μ-loop
-slice-aggregate-text-2 c = search needs
+slice-aggregate-put-text-2 : tie.Need-slice-aggregate-put-text-2 Inv-loop μ-loop
+slice-aggregate-put-text-2 c = search needs
 
-text-requires-2 : tie.Need-text-requires-2 Inv-loop μ-loop
-text-requires-2 c κs = search needs
+put-text-requires-2 : tie.Need-put-text-requires-2 Inv-loop μ-loop
+put-text-requires-2 c κs = search needs
 
 returns : tie.Need-returns Inv-loop μ-loop
 returns c = search needs
@@ -53,15 +53,15 @@ label-spec =
     (tie.spec
     Inv-loop
     μ-loop
-    slice-aggregate-text
-    text-requires
+    slice-aggregate-put-text
+    put-text-requires
     loop-holds
     shared-slice-read-visible
     visible-requires
-    byte-requires
+    put-byte-requires
     add-i
     loop-less
     loop-again
-    slice-aggregate-text-2
-    text-requires-2
+    slice-aggregate-put-text-2
+    put-text-requires-2
     returns)

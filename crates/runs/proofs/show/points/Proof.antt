@@ -1,4 +1,4 @@
--- `points` is safe and ends. Assumes nothing.
+-- `points` is safe, ends, and answers a place within the buffer. Assumes nothing.
 use Prim.Native.Nat.{_≤_, _-_}
 use lib.ListN.{length}
 use borrow.Author.Needs.{needs}
@@ -6,10 +6,10 @@ use Rattle.runs.proofs.show.points.Statement.{statement}
 use Rattle.runs.proofs.show.points.Tie as tie
 
 abbrev Inv-loop : tie.InvT-loop
-Inv-loop cells i₀ i = (i ≤ length cells)
+Inv-loop out₀ at cells to₀ i₀ out to i = (i ≤ length cells) × (to ≤ 65536)
 
 abbrev μ-loop : tie.MeasureT-loop
-μ-loop cells i₀ i = length cells - i
+μ-loop out₀ at cells to₀ i₀ out to i = length cells - i
 
 loop-holds : tie.Need-loop-holds Inv-loop μ-loop
 loop-holds c = search needs

@@ -1,0 +1,77 @@
+-- Buffers that hold what is read of any file of n bytes: n + 2 cells for places, n / 2 for runs and 3 n / 2 for blocks. A `read` with these is
+-- never refused by 11. Assumes nothing.
+use Prim.Native.Nat.{ℕ, _+_, _*_, _/_, _≤_}
+use mathlib.Core.Path.{_≡_, sym, _∙_, ap}
+use mathlib.Core.Bool.{Bool, false}
+use mathlib.Core.List.{List, [], _∷_, _++_}
+use native.Mathlib.Omega.{arith}
+use borrow.Author.Tests.{le-ltb}
+use lib.IntN.{ℤ, pos, natAbs}
+use lib.Signed.{leZ}
+use lib.ListN.{length, length-drop}
+use Rattle.rules.specs.Files.{wordAt, partStart, stitchBytes, firstOf, eventsOf, colourOf, placesOf, runsOf, blocksOf, fileRefusals, noRoom, readVerdict, readAnswer, readNumber}
+use Rattle.rules.specs.Promises.{ReadOf}
+use Rattle.rules.specs.Refusals.{numberOf, verdict}
+use Rattle.rules.specs.declared.Counts.{Counts}
+use Rattle.rules.specs.declared.Extension.{Extension}
+use Rattle.rules.specs.declared.Extension.the-variants.{Of, Unknown}
+use Rattle.rules.specs.declared.Format.{Format}
+use Rattle.rules.specs.declared.Format.the-variants.{Pes, Pec, Dst, Exp, Jef}
+use Rattle.rules.specs.declared.ReadAnswer.{ReadAnswer}
+use Rattle.rules.specs.declared.ReadAnswer.the-variants.{Unread}
+use Rattle.rules.specs.declared.Refusal.{Refusal}
+use Rattle.rules.specs.declared.Refusal.the-variants.{BufferTooShort}
+use Rattle.rules.specs.declared.Verdict.{Verdict}
+use Rattle.rules.specs.declared.Verdict.the-variants.{Accepted, Refused}
+use Rattle.laws.specs.Tests.{by-test}
+use Rattle.passes.proofs.Bounds.{ample-fits}
+use Rattle.passes.specs.Told.{Fits, Ample}
+use Rattle.sewing.specs.Sizes.{Below, Small}
+
+-- the records are a part of the file
+part-long : (f : Format) (s : List ℕ) → length (stitchBytes f s) ≤ length s
+unfolding stitchBytes
+part-long Pes s = omega (arith, length-drop (partStart Pes s + 528) s)
+part-long Pec s = omega (arith, length-drop (partStart Pec s + 528) s)
+part-long Dst s = omega (arith, length-drop 512 s)
+part-long Exp s = omega arith
+part-long Jef s = by-test (leZ (pos 0) (wordAt 0 s)) (λ t. rw t (omega (arith, length-drop (natAbs (wordAt 0 s)) s))) (λ t. rw t (omega arith))
+
+module _ (s : List ℕ) (i j k : ℕ) (room : Ample (length s) i j k) where
+  fits : (f : Format) → Fits (colourOf f s) (firstOf f) (stitchBytes f s) i j k
+  fits f = ample-fits f (colourOf f s) (stitchBytes f s) i j k (record {
+    places = omega (arith, part-long f s, room .places);
+    runs = omega (arith, part-long f s, room .runs);
+    blocks = omega (arith, part-long f s, room .blocks);
+  })
+
+  enough : (f : Format) → noRoom f s i j k ≡ false
+  unfolding noRoom placesOf runsOf blocksOf eventsOf
+  enough f = rw (le-ltb i _ (fits f .places), le-ltb j _ (fits f .runs), le-ltb k _ (fits f .blocks))
+
+  below : (f : Format) → Below (fileRefusals f s)
+  unfolding fileRefusals numberOf
+  below f = (omega arith, (omega arith, (omega arith, (omega arith, (omega arith, tt)))))
+
+  -- what is asked besides does not hold
+  small-then : (cs : List (Refusal × Bool)) → Below cs → Small (verdict (cs ++ (BufferTooShort, false) ∷ []))
+  unfolding verdict
+  small-then [] h = tt
+  small-then (c ∷ cs) h = by-test (c .1) (λ t. rw t (h .0)) (λ t. rw t (small-then cs (h .1)))
+
+  by-extension : (e : Extension) → Small (readVerdict e s i j k)
+  unfolding readVerdict verdict numberOf
+  by-extension Unknown = omega arith
+  by-extension (Of f) = rw (enough f) (small-then (fileRefusals f s) (below f))
+
+not-eleven : (v : Verdict) (c : Counts) (r : ReadAnswer) → Small v → r ≡ readAnswer v c → r ≡ Unread BufferTooShort → ⊥
+unfolding readAnswer readNumber numberOf
+not-eleven Accepted c r s e is = let z : _≡_ {A = ℕ} 0 11 = ap readNumber (sym e ∙ is) in omega (arith, z)
+not-eleven (Refused why) c r s e is = let z : numberOf why ≡ 11 = ap readNumber (sym e ∙ is) in omega (arith, s, z)
+
+pub never-short : (e : Extension) (file : List ℕ) (places : List ℤ) (runs blocks : List ℕ) (places′ : List ℤ) (runs′ blocks′ : List ℕ) (r : ReadAnswer)
+    → ReadOf e file places runs blocks places′ runs′ blocks′ r
+    → length file + 2 ≤ length places → length file / 2 ≤ length runs → 3 * length file / 2 ≤ length blocks
+    → r ≡ Unread BufferTooShort → ⊥
+never-short e file places runs blocks places′ runs′ blocks′ r p a b c is =
+    not-eleven _ _ r (by-extension file (length places) (length runs) (length blocks) (record { places = a; runs = b; blocks = c }) e) (p .answered) is
