@@ -19,7 +19,7 @@ ghost use Rattle.rules.specs.Refusals.{extensionOf};
 ghost use Rattle.rules.specs.declared.Extension.the-variants.{Of};
 ghost use Rattle.stitch_box.specs.Back.{ReadBackOf};
 
-// `write` in a format that is known.
+// `write` in a format that is known. The order of the arms is for speed: the compiler puts all writers into this function.
 pub fn write_stitch_file(
     f: Format,
     name: &[u8],
@@ -32,11 +32,11 @@ pub fn write_stitch_file(
     ensures { λ w. ⌜ Wrote (Of f) (was name) (was xs) (was ys) (was kinds) (was threads) (was out) (left out) w ⌝ }
 {
     match f {
-        Format::Pes => pes_from_stream(name, xs, ys, kinds, threads, out),
-        Format::Pec => write_pec_file(name, xs, ys, kinds, threads, out),
         Format::Dst => dst_from_stream(name, xs, ys, kinds, threads, out),
         Format::Exp => write_exp(xs, ys, kinds, threads, out),
         Format::Jef => write_jef(xs, ys, kinds, threads, out),
+        Format::Pec => write_pec_file(name, xs, ys, kinds, threads, out),
+        Format::Pes => pes_from_stream(name, xs, ys, kinds, threads, out),
     }
 }
 
