@@ -7,6 +7,7 @@ use native.Mathlib.Omega.{arith}
 use lib.IntN.{ℤ}
 use lib.ListN.{length}
 use Rattle.rules.specs.Answers.{startOf, runOf, blockOf, pointsAfter, begunAfter}
+use Rattle.rules.specs.Limits.{blockCells}
 use Rattle.builder.specs.Builders.{some, added, opening}
 
 -- a run is open: it has n points
@@ -35,7 +36,7 @@ unfolding runOf
 run-cells zero = refl
 run-cells (suc n) = refl
 
-pub block-cells : (c : ℕ → ℕ) (k m : ℕ) → length (blockOf c k m) ≡ 3 * some m
+pub block-cells : (c : ℕ → ℕ) (k m : ℕ) → length (blockOf c k m) ≡ blockCells * some m
 unfolding blockOf
 block-cells c k zero = refl
 block-cells c k (suc m) = refl

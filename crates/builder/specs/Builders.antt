@@ -5,6 +5,7 @@ use mathlib.Core.List.{List, [], _∷_, _++_}
 use lib.IntN.{ℤ, pos, natAbs, _+ℤ_}
 use lib.ListN.{length}
 use Rattle.rules.specs.Answers.{startOf, runOf, blockOf, pointsAfter, begunAfter}
+use Rattle.rules.specs.Limits.{blockCells}
 use Rattle.rules.specs.declared.Counts.{Counts}
 use Rattle.rules.specs.declared.Record.{Record}
 use Rattle.rules.specs.declared.Record.the-variants.{StitchBy, JumpBy, ChangeBy, Finish}
@@ -149,4 +150,4 @@ pub record Reach (b : Builder) (dx dy : ℤ) : Type 0 where
 pub record Holds (colour : ℕ → ℕ) (b : Builder) (r : Record) (np nr nb : ℕ) : Type 0 where
   pub places : 2 * b .points + length (placesBy b r) ≤ np
   pub runs : b .runs + length (runsBy b r) ≤ nr
-  pub blocks : 3 * b .blocks + length (blocksBy colour b r) ≤ nb
+  pub blocks : blockCells * b .blocks + length (blocksBy colour b r) ≤ nb

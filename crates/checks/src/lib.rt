@@ -1,6 +1,11 @@
 // What is asked of a list of commands and its threads before it is written: refusals 6 to 10.
 // Each check goes over the whole list, for slices of any lengths, with no early exit: so its loop compiles to vector instructions.
 use rules::Format;
+use rules::GREATEST_PLACE;
+use rules::LEAST_PLACE;
+use rules::MOST_CHANGES;
+use rules::MOST_COMMANDS;
+use rules::MOST_THREADS;
 use rules::Refusal;
 use rules::Verdict;
 ghost use mathlib.Core.Path.{_≡_};
@@ -9,8 +14,8 @@ ghost use Prim.Native.Nat.{_≤_};
 ghost use lib.Dec.{ltb};
 ghost use lib.ListN.{length};
 ghost use Rattle.rules.specs.Vocabulary.{between, eqZ, any, count};
-ghost use Rattle.rules.specs.Lists.{commands, opOf, endsOnce, placed, samePlace, isChange, stands, leastStep, greatestStep};
-ghost use Rattle.rules.specs.Refusals.{numberOf, badList, placeOutside, changes, tooMany, moved, stepTooLong, listVerdict};
+ghost use Rattle.rules.specs.Lists.{commands, opOf, endsOnce, placed, samePlace, isChange, stands};
+ghost use Rattle.rules.specs.Refusals.{numberOf, badList, placeOutside, changes, tooMany, moved, stepTooLong, listVerdict, leastStep, greatestStep};
 
 // The number of a refusal.
 pub fn number(r: Refusal) -> u32
@@ -79,7 +84,7 @@ pub fn bad_list(xs: &[i32], ys: &[i32], kinds: &[u8]) -> bool
     if n == 0 {
         return true;
     }
-    if 65535 < n {
+    if MOST_COMMANDS < n {
         return true;
     }
     if xs.len() != n {
@@ -97,7 +102,7 @@ pub fn bad_list(xs: &[i32], ys: &[i32], kinds: &[u8]) -> bool
 fn is_placed(x: i32, y: i32) -> bool
     ensures { λ r. ⌜ r ≡ placed x y ⌝ }
 {
-    is_between(-16000, 16000, x) & is_between(-16000, 16000, y)
+    is_between(LEAST_PLACE, GREATEST_PLACE, x) & is_between(LEAST_PLACE, GREATEST_PLACE, y)
 }
 
 // 7: a place outside the range.
@@ -141,10 +146,10 @@ pub fn too_many(xs: &[i32], ys: &[i32], kinds: &[u8], threads: &[u8]) -> bool
     requires { ⌜ length (now kinds) ≤ 65535 ⌝ }
     ensures { λ r. ⌜ r ≡ tooMany (commands (now (xs .entry)) (now (ys .entry)) (now (kinds .entry))) (now (threads .entry)) ⌝ }
 {
-    if 254 < color_changes(xs, ys, kinds) {
+    if MOST_CHANGES < color_changes(xs, ys, kinds) {
         return true;
     }
-    if 255 < threads.len() / 3 {
+    if MOST_THREADS < threads.len() / 3 {
         return true;
     }
     threads.len() % 3 != 0

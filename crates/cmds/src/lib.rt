@@ -3,6 +3,7 @@ use formats::extension_of;
 use rules::Cmd;
 use rules::Extension;
 use rules::Format;
+use rules::MOST_COMMANDS;
 use rules::Refusal;
 use rules::WriteAnswer;
 use stitch_box::write_stitch_file;
@@ -22,7 +23,7 @@ ghost use Rattle.cmds.specs.Records.{WroteFront};
 fn fitting(n: usize) -> usize
     ensures { λ r. ⌜ (r ≡ pick (ltb 65535 n) 0 n) × (r ≤ n) × (r ≤ 65535) ⌝ }
 {
-    if 65535 < n {
+    if MOST_COMMANDS < n {
         return 0;
     }
     n

@@ -11,10 +11,12 @@ use emit::put3;
 use emit::size;
 use encode::put_stream;
 use encode::stream_len;
+use encode_cmd::Stream;
 use formats::list_len;
 use formats::op_of;
 use formats::stream_bounds;
 use geom::Bounds;
+use rules::DST_HEADER;
 use rules::Format;
 use rules::Op;
 use rules::Refusal;
@@ -180,7 +182,7 @@ fn put_file(name: &[u8], xs: &[i32], ys: &[i32], kinds: &[u8], out: &mut [u8]) -
 {
     let blanks = put_text_of(name, xs, ys, kinds, out);
     let records = put_times(out, blanks, 0x20, 387);
-    put_stream(Format::Dst, xs, ys, kinds, out, records)
+    put_stream(Stream::Dst, xs, ys, kinds, out, records)
 }
 
 // The file, or refusal 11.
@@ -188,7 +190,7 @@ fn write_accepted(name: &[u8], xs: &[i32], ys: &[i32], kinds: &[u8], out: &mut [
     requires { ⌜ (length (now kinds) ≤ 65535) × (stepTooLong Dst (commands (now xs) (now ys) (now kinds)) ≡ false) ⌝ }
     ensures { λ r. ⌜ Answered (dstFile (now (name .entry)) (commands (now (xs .entry)) (now (ys .entry)) (now (kinds .entry)))) (now (out .entry)) (now (out .exit)) r ⌝ }
 {
-    let n = 512 + stream_len(Format::Dst, xs, ys, kinds);
+    let n = DST_HEADER + stream_len(Stream::Dst, xs, ys, kinds);
     if out.len() < n {
         return WriteAnswer::Unwritten(Refusal::BufferTooShort);
     }

@@ -1,6 +1,6 @@
 -- How many bytes commands are, told by how many of them are stitches, controls and trims. Assumes nothing.
 use Prim.Native.Nat.{ℕ, zero, suc, _+_, _*_, _≤_, _<_}
-use mathlib.Core.Path.{_≡_, refl}
+use mathlib.Core.Path.{_≡_}
 use mathlib.Core.List.{List, [], _∷_}
 use native.Mathlib.Omega.{arith}
 use native.Mathlib.Numerals.{one-add}
@@ -13,18 +13,14 @@ use Rattle.rules.specs.Dst.{dstBytes, dstCmd}
 use Rattle.rules.specs.Exp.{pairOf, expCmd}
 use Rattle.rules.specs.Jef.{jefCmd}
 use Rattle.rules.specs.Lists.{opOf, commands, written}
-use Rattle.rules.specs.declared.Cmd.{Cmd}
-use Rattle.rules.specs.declared.Op.{Op}
-use Rattle.rules.specs.declared.Format.{Format}
-use Rattle.rules.specs.declared.Format.the-variants.{Pes, Pec, Dst, Exp, Jef}
+use Rattle.encode_cmd.specs.declared.Stream.{Stream}
+use Rattle.encode_cmd.specs.declared.Stream.the-variants.{Dst, Exp, Jef}
 use Rattle.laws.specs.Tests.{and-no-right, pick-false}
 use Rattle.laws.specs.Listing.{length-commands, count-le}
 use Rattle.encode_cmd.specs.Cmds.{cmdOf, kindIn}
 
 -- t bytes of n commands, s of them stitches, c of kinds 1 to 3 and r trims
-abbrev pub Sum : Format → ℕ → ℕ → ℕ → ℕ → ℕ → Type 0
-Sum Pes t n s c r = t ≡ 0
-Sum Pec t n s c r = t ≡ 0
+abbrev pub Sum : Stream → ℕ → ℕ → ℕ → ℕ → ℕ → Type 0
 Sum Dst t n s c r = t ≡ 3 * n + 6 * r
 Sum Exp t n s c r = t ≡ 2 * s + 4 * c
 Sum Jef t n s c r = t + 4 * r ≡ 2 * n + 2 * c
@@ -34,11 +30,9 @@ over : (lo hi k : ℕ) → hi < k → _≡_ {A = ℕ} (pick (kindIn lo hi k) 1 0
 over lo hi k h = pick-false 1 0 (and-no-right (leb lo k) (leb k hi) (lt-leb k hi h))
 
 -- of one command
-one-sum : (f : Format) (k : ℕ) (dx dy : ℤ)
+one-sum : (f : Stream) (k : ℕ) (dx dy : ℤ)
     → Sum f (length (cmdOf f (opOf k) dx dy)) 1 (pick (kindIn 0 0 k) 1 0) (pick (kindIn 1 3 k) 1 0) (pick (kindIn 2 2 k) 1 0)
 unfolding opOf dstCmd dstBytes expCmd jefCmd pairOf
-one-sum Pes k dx dy = omega arith
-one-sum Pec k dx dy = omega arith
 one-sum Dst zero dx dy = omega arith
 one-sum Dst (suc zero) dx dy = omega arith
 one-sum Dst (suc (suc zero)) dx dy = omega arith
@@ -56,26 +50,22 @@ one-sum Jef (suc (suc (suc zero))) dx dy = omega arith
 one-sum Jef (suc (suc (suc (suc k)))) dx dy = let m = suc (suc (suc (suc k))) in omega (arith, over 1 3 m (omega arith), over 2 2 m (omega arith))
 
 -- of commands and more commands
-pub record Told (f : Format) (t n s c r : ℕ) : Type 0 where
+pub record Told (f : Stream) (t n s c r : ℕ) : Type 0 where
   pub told : Sum f t n s c r
 
-both : (f : Format) {t n s c r t′ n′ s′ c′ r′ : ℕ} → Told f t n s c r → Told f t′ n′ s′ c′ r′ → Told f (t + t′) (n + n′) (s + s′) (c + c′) (r + r′)
-both Pes p q = record { told = omega arith }
-both Pec p q = record { told = omega arith }
+both : (f : Stream) {t n s c r t′ n′ s′ c′ r′ : ℕ} → Told f t n s c r → Told f t′ n′ s′ c′ r′ → Told f (t + t′) (n + n′) (s + s′) (c + c′) (r + r′)
 both Dst p q = record { told = omega arith }
 both Exp p q = record { told = omega arith }
 both Jef p q = record { told = omega arith }
 
 -- of none
-none : (f : Format) → Told f 0 0 0 0 0
-none Pes = record { told = omega arith }
-none Pec = record { told = omega arith }
+none : (f : Stream) → Told f 0 0 0 0 0
 none Dst = record { told = omega arith }
 none Exp = record { told = omega arith }
 none Jef = record { told = omega arith }
 
 -- of all
-pub lengths : (f : Format) (x y : ℤ) (xs ys : List ℤ) (ks : List ℕ)
+pub lengths : (f : Stream) (x y : ℤ) (xs ys : List ℤ) (ks : List ℕ)
     → (let cs = commands xs ys ks in
     let kinds = take (length cs) ks in
     Told f (length (written (cmdOf f) x y cs)) (length cs) (count (kindIn 0 0) kinds) (count (kindIn 1 3) kinds) (count (kindIn 2 2) kinds))
@@ -88,22 +78,13 @@ lengths f x y (a ∷ xs) (b ∷ ys) (k ∷ ks) =
     (both f (record { told = one-sum f k (a -ℤ x) (b -ℤ y) }) (lengths f a b xs ys ks))
 
 -- no command takes more than nine bytes
-most : (f : Format) {t n s c r : ℕ} → Told f t n s c r → s ≤ n → c ≤ n → r ≤ n → t ≤ 9 * n
-most Pes p u v w = omega arith
-most Pec p u v w = omega arith
+most : (f : Stream) {t n s c r : ℕ} → Told f t n s c r → s ≤ n → c ≤ n → r ≤ n → t ≤ 9 * n
 most Dst p u v w = omega arith
 most Exp p u v w = omega arith
 most Jef p u v w = omega arith
 
-pub stream-most : (f : Format) (xs ys : List ℤ) (ks : List ℕ) → length (written (cmdOf f) (pos 0) (pos 0) (commands xs ys ks)) ≤ 9 * length ks
+pub stream-most : (f : Stream) (xs ys : List ℤ) (ks : List ℕ) → length (written (cmdOf f) (pos 0) (pos 0) (commands xs ys ks)) ≤ 9 * length ks
 stream-most f xs ys ks =
     let n = length (commands xs ys ks) in
     let le : (lo hi : ℕ) → count (kindIn lo hi) (take n ks) ≤ n = λ lo hi. omega (arith, count-le (kindIn lo hi) (take n ks), length-take n ks, length-commands xs ys ks) in
     omega (arith, most f (lengths f (pos 0) (pos 0) xs ys ks) (le 0 0) (le 1 3) (le 2 2), length-commands xs ys ks)
-
--- ---- a format whose commands have no bytes here
-
-pub no-bytes : (f : Format) → ((op : Op) (dx dy : ℤ) → cmdOf f op dx dy ≡ []) → (x y : ℤ) (cs : List Cmd) → written (cmdOf f) x y cs ≡ []
-unfolding written
-no-bytes f h x y [] = refl
-no-bytes f h x y (c ∷ cs) = rw h (no-bytes f h (c .x) (c .y) cs)

@@ -5,8 +5,8 @@ pub mod triples;
 
 use crate::pairs::put_pairs;
 use crate::triples::put_triples;
+use encode_cmd::Stream;
 use formats::list_len;
-use rules::Format;
 ghost use mathlib.Core.Path.{_≡_};
 ghost use mathlib.Core.Bool.{false};
 ghost use Prim.Native.Nat.{_+_, _≤_};
@@ -17,7 +17,7 @@ ghost use Rattle.rules.specs.Vocabulary.{pick, count};
 ghost use Rattle.rules.specs.Lists.{commands, written};
 ghost use Rattle.rules.specs.Refusals.{stepTooLong};
 ghost use Rattle.laws.specs.Buffers.{Put};
-ghost use Rattle.encode_cmd.specs.Cmds.{cmdOf, kindIn};
+ghost use Rattle.encode_cmd.specs.Cmds.{formatOf, cmdOf, kindIn};
 
 // A step on one axis, between two places that are near each other.
 fn step(from: i32, to: i32) -> i32
@@ -59,36 +59,34 @@ fn kinds_in(lo: u8, hi: u8, kinds: &[u8], n: usize) -> usize
 }
 
 // The bytes that all commands take. Kind 0 is a stitch, 2 a trim, and 1 to 3 are the kinds that are neither stitch nor end.
-pub fn stream_len(f: Format, xs: &[i32], ys: &[i32], kinds: &[u8]) -> usize
+pub fn stream_len(f: Stream, xs: &[i32], ys: &[i32], kinds: &[u8]) -> usize
     requires { ⌜ length (now kinds) ≤ 65535 ⌝ }
     ensures { λ r. ⌜ r ≡ length (written (cmdOf f) (pos 0) (pos 0) (commands (now (xs .entry)) (now (ys .entry)) (now (kinds .entry)))) ⌝ }
 {
     let n = list_len(xs, ys, kinds);
     match f {
-        Format::Pes | Format::Pec => 0,
-        Format::Dst => 3 * n + 6 * kinds_in(2, 2, kinds, n),
-        Format::Exp => 2 * kinds_in(0, 0, kinds, n) + 4 * kinds_in(1, 3, kinds, n),
-        Format::Jef => 2 * n + 2 * kinds_in(1, 3, kinds, n) - 4 * kinds_in(2, 2, kinds, n),
+        Stream::Dst => 3 * n + 6 * kinds_in(2, 2, kinds, n),
+        Stream::Exp => 2 * kinds_in(0, 0, kinds, n) + 4 * kinds_in(1, 3, kinds, n),
+        Stream::Jef => 2 * n + 2 * kinds_in(1, 3, kinds, n) - 4 * kinds_in(2, 2, kinds, n),
     }
 }
 
 // The bytes of all commands, from `at` on.
 pub fn put_stream(
-    f: Format,
+    f: Stream,
     xs: &[i32],
     ys: &[i32],
     kinds: &[u8],
     out: &mut [u8],
     at: usize,
 ) -> usize
-    requires { ⌜ stepTooLong f (commands (now xs) (now ys) (now kinds)) ≡ false ⌝ }
+    requires { ⌜ stepTooLong (formatOf f) (commands (now xs) (now ys) (now kinds)) ≡ false ⌝ }
     requires { ⌜ at + length (written (cmdOf f) (pos 0) (pos 0) (commands (now xs) (now ys) (now kinds))) ≤ length (now out) ⌝ }
     ensures { λ r. ⌜ Put (now (out .entry)) (now (out .exit)) at r (written (cmdOf f) (pos 0) (pos 0) (commands (now (xs .entry)) (now (ys .entry)) (now (kinds .entry)))) ⌝ }
 {
     match f {
-        Format::Pes | Format::Pec => at,
-        Format::Dst => put_triples(xs, ys, kinds, out, at),
-        Format::Exp => put_pairs(false, xs, ys, kinds, out, at),
-        Format::Jef => put_pairs(true, xs, ys, kinds, out, at),
+        Stream::Dst => put_triples(xs, ys, kinds, out, at),
+        Stream::Exp => put_pairs(false, xs, ys, kinds, out, at),
+        Stream::Jef => put_pairs(true, xs, ys, kinds, out, at),
     }
 }

@@ -12,9 +12,9 @@ ghost use lib.IntN.{pos, _-ℤ_};
 ghost use lib.ListN.{length};
 ghost use Rattle.rules.specs.Lists.{commands, written};
 ghost use Rattle.rules.specs.Exp.{pairOf};
-ghost use Rattle.rules.specs.declared.Format.the-variants.{Exp};
+ghost use Rattle.encode_cmd.specs.declared.Stream.the-variants.{Exp};
 ghost use Rattle.laws.specs.Buffers.{Put};
-ghost use Rattle.encode_cmd.specs.Cmds.{cmdOf, pairFormat, Step, Ready, StepAt, bytesAt};
+ghost use Rattle.encode_cmd.specs.Cmds.{cmdOf, pairStream, Step, Ready, StepAt, bytesAt};
 
 // Two stitches, from (x, y) to (nx, ny) and on to (mx, my).
 fn put_two(x: i32, y: i32, nx: i32, ny: i32, mx: i32, my: i32, out: &mut [u8], at: usize) -> usize
@@ -39,9 +39,9 @@ fn put_at(
     out: &mut [u8],
     at: usize,
 ) -> usize
-    requires { ⌜ (i < length (commands (now xs) (now ys) (now kinds))) × StepAt (pairFormat jef) (now xs) (now ys) i x y ⌝ }
-    requires { ⌜ at + length (bytesAt (pairFormat jef) (now xs) (now ys) (now kinds) i x y) ≤ length (now out) ⌝ }
-    ensures { λ r. ⌜ Put (now (out .entry)) (now (out .exit)) at r (bytesAt (pairFormat jef) (now (xs .entry)) (now (ys .entry)) (now (kinds .entry)) i x y) ⌝ }
+    requires { ⌜ (i < length (commands (now xs) (now ys) (now kinds))) × StepAt (pairStream jef) (now xs) (now ys) i x y ⌝ }
+    requires { ⌜ at + length (bytesAt (pairStream jef) (now xs) (now ys) (now kinds) i x y) ≤ length (now out) ⌝ }
+    ensures { λ r. ⌜ Put (now (out .entry)) (now (out .exit)) at r (bytesAt (pairStream jef) (now (xs .entry)) (now (ys .entry)) (now (kinds .entry)) i x y) ⌝ }
 {
     pair_cmd(
         jef,
@@ -62,8 +62,8 @@ pub fn put_pairs(
     out: &mut [u8],
     at: usize,
 ) -> usize
-    requires { ⌜ Ready (pairFormat jef) (now xs) (now ys) (now kinds) (now out) at ⌝ }
-    ensures { λ r. ⌜ Put (now (out .entry)) (now (out .exit)) at r (written (cmdOf (pairFormat jef)) (pos 0) (pos 0) (commands (now (xs .entry)) (now (ys .entry)) (now (kinds .entry)))) ⌝ }
+    requires { ⌜ Ready (pairStream jef) (now xs) (now ys) (now kinds) (now out) at ⌝ }
+    ensures { λ r. ⌜ Put (now (out .entry)) (now (out .exit)) at r (written (cmdOf (pairStream jef)) (pos 0) (pos 0) (commands (now (xs .entry)) (now (ys .entry)) (now (kinds .entry)))) ⌝ }
 {
     let n = list_len(xs, ys, kinds);
     let mut x: i32 = 0;

@@ -13,7 +13,7 @@ ghost use lib.IntN.{pos, _-ℤ_};
 ghost use lib.ListN.{length};
 ghost use Rattle.rules.specs.Lists.{commands, written};
 ghost use Rattle.rules.specs.Dst.{dstCmd};
-ghost use Rattle.rules.specs.declared.Format.the-variants.{Dst};
+ghost use Rattle.encode_cmd.specs.declared.Stream.the-variants.{Dst};
 ghost use Rattle.rules.specs.declared.Op.the-variants.{Stitch};
 ghost use Rattle.laws.specs.Buffers.{Put};
 ghost use Rattle.encode_cmd.specs.Cmds.{Step, Ready, StepAt, bytesAt, Tables};

@@ -9,10 +9,10 @@ use mir.Val.{SFits, toZ, ofZ}
 use Rattle.rules.specs.Vocabulary.{bitsOf}
 use Rattle.rules.specs.Exp.{pairOf, expCmd}
 use Rattle.rules.specs.Jef.{jefCmd}
-use Rattle.rules.specs.declared.Format.the-variants.{Exp}
+use Rattle.encode_cmd.specs.declared.Stream.the-variants.{Exp}
 use Rattle.rules.specs.declared.Op.the-variants.{Stitch}
 use Rattle.laws.specs.Ints.{up, dn, ints, abs-is, seen}
-use Rattle.encode_cmd.specs.Cmds.{cmdOf, pairFormat, most, Step}
+use Rattle.encode_cmd.specs.Cmds.{cmdOf, pairStream, most, Step}
 
 -- z + 256
 abbrev pub over : ℤ → ℕ
@@ -32,12 +32,12 @@ module _ {z : ℤ} (f : SFits w32 z) (h : natAbs z ≤ 127) where
 
 -- ---- the two formats whose steps are pairs
 
-pub stitch-pair : (jef : Bool) (dx dy : ℤ) → cmdOf (pairFormat jef) Stitch dx dy ≡ pairOf dx dy
+pub stitch-pair : (jef : Bool) (dx dy : ℤ) → cmdOf (pairStream jef) Stitch dx dy ≡ pairOf dx dy
 unfolding expCmd jefCmd
 stitch-pair true dx dy = refl
 stitch-pair false dx dy = refl
 
-pub pair-step : (jef : Bool) {dx dy : ℤ} → Step (pairFormat jef) dx dy → Step Exp dx dy
+pub pair-step : (jef : Bool) {dx dy : ℤ} → Step (pairStream jef) dx dy → Step Exp dx dy
 unfolding most
 pair-step true p = record { x = p .x; y = p .y }
 pair-step false p = p

@@ -2,7 +2,7 @@
 use Prim.Native.Nat.{ℕ, zero, suc, _+_, _≤_, _<_}
 use mathlib.Core.Path.{_≡_}
 use mathlib.Core.Bool.{Bool, true, false, _&&_}
-use mathlib.Core.List.{List, []}
+use mathlib.Core.List.{List}
 use lib.Dec.{leb}
 use lib.IntN.{ℤ, pos, natAbs, _-ℤ_}
 use lib.ListN.{length, getD}
@@ -12,26 +12,30 @@ use Rattle.rules.specs.Refusals.{stepTooLong}
 use Rattle.rules.specs.Dst.{Digit, minus, nought, plus, dstBytes, dstCmd}
 use Rattle.rules.specs.Exp.{expCmd}
 use Rattle.rules.specs.Jef.{jefCmd}
+use Rattle.encode_cmd.specs.declared.Stream.{Stream}
+use Rattle.encode_cmd.specs.declared.Stream.the-variants.{Dst, Exp, Jef}
 use Rattle.rules.specs.declared.Format.{Format}
-use Rattle.rules.specs.declared.Format.the-variants.{Pes, Pec, Dst, Exp, Jef}
+use Rattle.rules.specs.declared.Format.the-variants as format
 use Rattle.rules.specs.declared.Op.{Op}
 
-abbrev pub cmdOf : Format → Op → ℤ → ℤ → List ℕ
-cmdOf Pes op dx dy = []
-cmdOf Pec op dx dy = []
+-- what the rules call it
+abbrev pub formatOf : Stream → Format
+formatOf Dst = format.Dst
+formatOf Exp = format.Exp
+formatOf Jef = format.Jef
+
+abbrev pub cmdOf : Stream → Op → ℤ → ℤ → List ℕ
 cmdOf Dst op dx dy = dstCmd op dx dy
 cmdOf Exp op dx dy = expCmd op dx dy
 cmdOf Jef op dx dy = jefCmd op dx dy
 
 -- the greatest step on either axis
-unfoldable pub most : Format → ℕ
-most Pes = 2048
-most Pec = 2048
+unfoldable pub most : Stream → ℕ
 most Dst = 121
 most Exp = 127
 most Jef = 127
 
-pub record Step (f : Format) (dx dy : ℤ) : Type 0 where
+pub record Step (f : Stream) (dx dy : ℤ) : Type 0 where
   pub x : natAbs dx ≤ most f
   pub y : natAbs dy ≤ most f
 
@@ -39,20 +43,20 @@ pub record Step (f : Format) (dx dy : ℤ) : Type 0 where
 abbrev pub kindIn : ℕ → ℕ → ℕ → Bool
 kindIn lo hi k = leb lo k && leb k hi
 
--- the formats whose steps are pairs of bytes
-abbrev pub pairFormat : Bool → Format
-pairFormat true = Jef
-pairFormat false = Exp
+-- those whose steps are pairs of bytes
+abbrev pub pairStream : Bool → Stream
+pairStream true = Jef
+pairStream false = Exp
 
 -- what a format's loop asks: no step is too long, and the buffer d has room from `at` on
-abbrev pub Ready : Format → List ℤ → List ℤ → List ℕ → List ℕ → ℕ → Type 0
-Ready f xs ys ks d at = (stepTooLong f (commands xs ys ks) ≡ false) × (at + length (written (cmdOf f) (pos 0) (pos 0) (commands xs ys ks)) ≤ length d)
+abbrev pub Ready : Stream → List ℤ → List ℤ → List ℕ → List ℕ → ℕ → Type 0
+Ready f xs ys ks d at = (stepTooLong (formatOf f) (commands xs ys ks) ≡ false) × (at + length (written (cmdOf f) (pos 0) (pos 0) (commands xs ys ks)) ≤ length d)
 
 -- the command at i, after the place (x, y): its step, and its bytes
-abbrev pub StepAt : Format → List ℤ → List ℤ → ℕ → ℤ → ℤ → Type 0
+abbrev pub StepAt : Stream → List ℤ → List ℤ → ℕ → ℤ → ℤ → Type 0
 StepAt f xs ys i x y = Step f (getD xs i (pos 0) -ℤ x) (getD ys i (pos 0) -ℤ y)
 
-abbrev pub bytesAt : Format → List ℤ → List ℤ → List ℕ → ℕ → ℤ → ℤ → List ℕ
+abbrev pub bytesAt : Stream → List ℤ → List ℤ → List ℕ → ℕ → ℤ → ℤ → List ℕ
 bytesAt f xs ys ks i x y = cmdOf f (opOf (getD ks i 0)) (getD xs i (pos 0) -ℤ x) (getD ys i (pos 0) -ℤ y)
 
 -- a digit counted from 0

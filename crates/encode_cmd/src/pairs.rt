@@ -11,9 +11,9 @@ ghost use lib.ListN.{length};
 ghost use Rattle.rules.specs.Vocabulary.{bitsOf};
 ghost use Rattle.rules.specs.Exp.{pairOf, expCmd};
 ghost use Rattle.rules.specs.Jef.{jefCmd};
-ghost use Rattle.rules.specs.declared.Format.the-variants.{Exp, Jef};
+ghost use Rattle.encode_cmd.specs.declared.Stream.the-variants.{Exp, Jef};
 ghost use Rattle.laws.specs.Buffers.{Put};
-ghost use Rattle.encode_cmd.specs.Cmds.{cmdOf, pairFormat, Step};
+ghost use Rattle.encode_cmd.specs.Cmds.{cmdOf, pairStream, Step};
 
 // A small number in two's complement.
 fn low_byte(z: i32) -> u8
@@ -77,9 +77,9 @@ fn jef_cmd(op: Op, dx: i32, dy: i32, out: &mut [u8], at: usize) -> usize
 
 // A command of JEF, or else of EXP.
 pub fn pair_cmd(jef: bool, op: Op, dx: i32, dy: i32, out: &mut [u8], at: usize) -> usize
-    requires { ⌜ Step (pairFormat jef) dx dy ⌝ }
-    requires { ⌜ at + length (cmdOf (pairFormat jef) op dx dy) ≤ length (now out) ⌝ }
-    ensures { λ r. ⌜ Put (now (out .entry)) (now (out .exit)) at r (cmdOf (pairFormat jef) op dx dy) ⌝ }
+    requires { ⌜ Step (pairStream jef) dx dy ⌝ }
+    requires { ⌜ at + length (cmdOf (pairStream jef) op dx dy) ≤ length (now out) ⌝ }
+    ensures { λ r. ⌜ Put (now (out .entry)) (now (out .exit)) at r (cmdOf (pairStream jef) op dx dy) ⌝ }
 {
     if jef {
         return jef_cmd(op, dx, dy, out, at);

@@ -9,7 +9,7 @@ ghost use lib.IntN.{pos, natAbs, negℤ, _+ℤ_, _-ℤ_};
 ghost use lib.ListN.{length};
 ghost use Rattle.rules.specs.Vocabulary.{fromLittle};
 ghost use Rattle.rules.specs.Dst.{pair, dstBytes, dstCmd};
-ghost use Rattle.rules.specs.declared.Format.the-variants.{Dst};
+ghost use Rattle.encode_cmd.specs.declared.Stream.the-variants.{Dst};
 ghost use Rattle.rules.specs.declared.Op.the-variants.{Trim};
 ghost use Rattle.laws.specs.Buffers.{Put};
 ghost use Rattle.encode_cmd.specs.Cmds.{Step, trit, partOf, Parts, Tables};

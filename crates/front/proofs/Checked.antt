@@ -10,12 +10,15 @@ use lib.IntN.{pos, natAbs}
 use lib.Signed.{ltZ}
 use lib.ListN.{length}
 use Rattle.rules.specs.Refusals.{verdict}
-use Rattle.rules.specs.Files.{begins, wordAt, partStart, fileRefusals, notPes, tooShort, startBelowZero, noCount}
+use Rattle.rules.specs.Pec.{noCount}
+use Rattle.rules.specs.Pes.{partAt}
+use Rattle.rules.specs.Files.{fileRefusals}
+use Rattle.rules.specs.Text.{begins, wordAt}
 use Rattle.rules.specs.declared.Format.{Format}
 use Rattle.rules.specs.declared.Format.the-variants.{Pes, Pec, Dst, Exp, Jef}
 use Rattle.rules.specs.declared.Refusal.the-variants.{FileTooLong, NotPes, FileTooShort, StartBelowZero}
 use Rattle.laws.specs.Tests.{by-test}
-use Rattle.front.specs.Openings.{byteOf, started, frontOf, pecFront, pesFront, dstFront, jefFront}
+use Rattle.front.specs.Openings.{byteOf, partStart, started, frontOf, pecFront, pesFront, dstFront, jefFront}
 use Rattle.front.specs.declared.Byte.the-variants.{Value, Missing}
 use Rattle.front.specs.declared.Opening.the-variants.{At, Not}
 
@@ -50,37 +53,37 @@ module _ (start : ℕ) (s : List ℕ) where
 
 module _ (s : List ℕ) where
   pub pes-unlike : begins (0x23 ∷ 0x50 ∷ 0x45 ∷ 0x53 ∷ []) s ≡ false → Not NotPes ≡ pesFront s
-  unfolding pesFront verdict notPes
+  unfolding pesFront verdict
   pes-unlike b = rw b
 
   module _ (b : begins (0x23 ∷ 0x50 ∷ 0x45 ∷ 0x53 ∷ []) s ≡ true) where
     pub pes-short : length s < 12 → Not FileTooShort ≡ pesFront s
-    unfolding pesFront verdict notPes tooShort
+    unfolding pesFront verdict
     pes-short h = rw (b, lt-ltb (length s) 12 h)
 
     module _ (h : 12 ≤ length s) where
       pub pes-below : ltZ (wordAt 8 s) (pos 0) ≡ true → Not StartBelowZero ≡ pesFront s
-      unfolding pesFront verdict notPes tooShort startBelowZero
+      unfolding pesFront verdict
       pes-below e = rw (b, le-ltb (length s) 12 h, e)
 
       pub pes-start : ltZ (wordAt 8 s) (pos 0) ≡ false → pecFront (natAbs (wordAt 8 s)) s ≡ pesFront s
-      unfolding pesFront verdict notPes tooShort startBelowZero noCount partStart
+      unfolding pesFront verdict noCount partStart partAt
       pes-start e = rw (b, le-ltb (length s) 12 h, e) (count-byte (natAbs (wordAt 8 s)) s)
 
   pub dst-short : length s < 512 → Not FileTooShort ≡ dstFront s
-  unfolding dstFront verdict tooShort
+  unfolding dstFront verdict
   dst-short h = rw (lt-ltb (length s) 512 h)
 
   pub dst-whole : 512 ≤ length s → At 0 ≡ dstFront s
-  unfolding dstFront verdict tooShort partStart
+  unfolding dstFront verdict partStart
   dst-whole h = rw (le-ltb (length s) 512 h)
 
   pub jef-short : length s < 4 → Not FileTooShort ≡ jefFront s
-  unfolding jefFront verdict tooShort
+  unfolding jefFront verdict
   jef-short h = rw (lt-ltb (length s) 4 h)
 
   pub jef-whole : 4 ≤ length s → At 0 ≡ jefFront s
-  unfolding jefFront verdict tooShort partStart
+  unfolding jefFront verdict partStart
   jef-whole h = rw (le-ltb (length s) 4 h)
 
   -- ---- every format: first that the file is not too long
@@ -95,17 +98,17 @@ module _ (s : List ℕ) where
     of-pes = rw (le-ltb 2097152 (length s) h)
 
     pub of-pec : pecFront 8 s ≡ frontOf Pec s
-    unfolding frontOf fileRefusals verdict notPes tooShort startBelowZero noCount partStart
+    unfolding frontOf fileRefusals verdict noCount partStart
     of-pec = rw (le-ltb 2097152 (length s) h) (count-byte 8 s)
 
     pub of-dst : dstFront s ≡ frontOf Dst s
-    unfolding frontOf dstFront fileRefusals verdict notPes startBelowZero noCount
+    unfolding frontOf dstFront fileRefusals verdict
     of-dst = rw (le-ltb 2097152 (length s) h)
 
     pub of-exp : At 0 ≡ frontOf Exp s
-    unfolding frontOf fileRefusals verdict notPes tooShort startBelowZero noCount partStart
+    unfolding frontOf fileRefusals verdict partStart
     of-exp = rw (le-ltb 2097152 (length s) h)
 
     pub of-jef : jefFront s ≡ frontOf Jef s
-    unfolding frontOf jefFront fileRefusals verdict notPes startBelowZero noCount
+    unfolding frontOf jefFront fileRefusals verdict
     of-jef = rw (le-ltb 2097152 (length s) h)

@@ -6,7 +6,7 @@ use native.Mathlib.Omega.{arith}
 use Rattle.header.specs.Spans.{Holds}
 use Rattle.header.specs.declared.Span.{Span}
 use Rattle.rules.specs.Refusals.{verdict}
-use Rattle.rules.specs.Files.{partStart, fileRefusals, fileVerdict, labelOf, labelUnder, labelTold}
+use Rattle.rules.specs.Files.{fileRefusals, fileVerdict, labelOf, labelUnder, labelTold}
 use Rattle.rules.specs.declared.Extension.{Extension}
 use Rattle.rules.specs.declared.Extension.the-variants.{Of, Unknown}
 use Rattle.rules.specs.declared.Format.{Format}
@@ -15,7 +15,7 @@ use Rattle.rules.specs.declared.Refusal.the-variants.{UnknownExtension}
 use Rattle.rules.specs.declared.Verdict.{Verdict}
 use Rattle.rules.specs.declared.Verdict.the-variants.{Accepted, Refused}
 use Rattle.front.specs.Labels.{labelAnswered}
-use Rattle.front.specs.Openings.{started, frontOf}
+use Rattle.front.specs.Openings.{partStart, started, frontOf}
 use Rattle.front.specs.declared.LabelAnswer.{LabelAnswer}
 use Rattle.front.specs.declared.LabelAnswer.the-variants as answer
 use Rattle.front.specs.declared.Opening.the-variants.{At, Not}

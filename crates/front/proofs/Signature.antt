@@ -7,7 +7,7 @@ use native.Mathlib.Omega.{arith}
 use lib.Dec.{eqb}
 use lib.ListN.{length, getD}
 use Rattle.rules.specs.Vocabulary.{sameBytes}
-use Rattle.rules.specs.Files.{begins}
+use Rattle.rules.specs.Text.{begins}
 use Rattle.laws.specs.Tests.{and-no-right}
 
 -- it has fewer bytes than are looked for

@@ -7,17 +7,20 @@ use header::dst_label_at;
 use header::i32le;
 use header::part;
 use header::pec_label_at;
+use rules::DST_HEADER;
 use rules::Extension;
 use rules::Format;
+use rules::LONGEST_FILE;
 use rules::Refusal;
 ghost use mathlib.Core.Path.{_≡_};
 ghost use mathlib.Core.List.{[], _∷_};
 ghost use Rattle.header.specs.Spans.{Holds};
-ghost use Rattle.rules.specs.Files.{partStart, begins, fileVerdict, labelOf, labelTold};
+ghost use Rattle.rules.specs.Files.{fileVerdict, labelOf, labelTold};
+ghost use Rattle.rules.specs.Text.{begins};
 ghost use Rattle.rules.specs.Refusals.{extensionOf};
 ghost use Rattle.rules.specs.declared.Extension.the-variants.{Of};
 ghost use Rattle.front.specs.Labels.{labelAnswered};
-ghost use Rattle.front.specs.Openings.{byteOf, pecFront, pesFront, dstFront, jefFront, frontOf};
+ghost use Rattle.front.specs.Openings.{byteOf, partStart, pecFront, pesFront, dstFront, jefFront, frontOf};
 
 // A byte, or a file that ends before it.
 pub enum Byte {
@@ -100,7 +103,7 @@ fn pes_front(file: &[u8]) -> Opening
 fn dst_front(file: &[u8]) -> Opening
     ensures { λ r. ⌜ r ≡ dstFront (now (file .entry)) ⌝ }
 {
-    if file.len() < 512 {
+    if file.len() < DST_HEADER {
         return Opening::Not(Refusal::FileTooShort);
     }
     Opening::At(0)
@@ -120,7 +123,7 @@ fn jef_front(file: &[u8]) -> Opening
 pub fn front(f: Format, file: &[u8]) -> Opening
     ensures { λ r. ⌜ r ≡ frontOf f (now (file .entry)) ⌝ }
 {
-    if 2097152 < file.len() {
+    if LONGEST_FILE < file.len() {
         return Opening::Not(Refusal::FileTooLong);
     }
     match f {

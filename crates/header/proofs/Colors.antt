@@ -12,7 +12,12 @@ use lib.Signed.{leZ, ltZ}
 use lib.ListN.{length, getD, set, take, drop, length-set, length-take, length-map}
 use lib.Seq.{getD-set-same, getD-set-other, getD-take, ext-getD}
 use Rattle.rules.specs.Vocabulary.{pick}
-use Rattle.rules.specs.Files.{begins, lineColor, lineColors, addColor, slotAt, linesOf, colorNumber, sixDigits, dropHashes, trimmed, beforeComma, pecColor, jefCount, jefColor, wordAt}
+use Rattle.rules.specs.Files.{colorNumber}
+use Rattle.rules.specs.Text.{begins, linesOf, trimmed, wordAt}
+use Rattle.rules.specs.Dst.{lineColor, lineColors, addColor, sixDigits, dropHashes, beforeComma}
+use Rattle.rules.specs.Layout.{slotAt}
+use Rattle.rules.specs.Pec.{pecColor}
+use Rattle.rules.specs.Jef.{jefCount, jefColor}
 use Rattle.rules.specs.Charts.{color, pecChart, jefChart}
 use Rattle.rules.specs.declared.Color.{Color}
 use Rattle.rules.specs.declared.Slot.{Slot}

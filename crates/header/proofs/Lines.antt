@@ -10,7 +10,8 @@ use native.Mathlib.Decide.{decLt}
 use lib.ListN.{length, getD, take, drop, length-take, length-drop}
 use lib.Seq.{take-suc, getD-drop, drop-drop}
 use Rattle.rules.specs.Vocabulary.{pick, sameBytes}
-use Rattle.rules.specs.Files.{linesOf, cutBefore, begins, lastLabel}
+use Rattle.rules.specs.Text.{linesOf, cutBefore, begins}
+use Rattle.rules.specs.Dst.{lastLabel}
 use Rattle.laws.specs.Tests.{clash, pick-le, pick-gt}
 use Rattle.laws.specs.Listing.{list-more, list-end}
 use Rattle.header.proofs.Texts.{drop-take}

@@ -7,7 +7,7 @@ use native.Mathlib.Omega.{arith}
 use lib.Dec.{eqb}
 use lib.ListN.{length, getD, take, drop}
 use lib.Seq.{take-suc}
-use Rattle.rules.specs.Files.{beforeComma, dropHashes}
+use Rattle.rules.specs.Dst.{beforeComma, dropHashes}
 use Rattle.laws.specs.Listing.{list-more, list-end}
 
 module _ (s : List ℕ) (i : ℕ) where

@@ -6,7 +6,7 @@ use native.Mathlib.Omega.{arith}
 use native.Mathlib.Decide.{decLt}
 use lib.ListN.{length, take, drop, length-take, length-drop}
 use lib.Seq.{take-nil, take-take, drop-drop}
-use Rattle.rules.specs.Files.{trimStart, trimEnd, trimmed}
+use Rattle.rules.specs.Text.{trimStart, trimEnd, trimmed}
 use Rattle.laws.specs.Listing.{list-end}
 use Rattle.header.specs.declared.Span.{Span}
 use Rattle.header.specs.Spans.{spanned, Holds}

@@ -6,7 +6,7 @@ use mathlib.Core.List.{List, [], _∷_, _++_}
 use native.Mathlib.Omega.{arith}
 use lib.ListN.{length, getD, take, drop, length-drop}
 use lib.Seq.{take-suc, take-all, take-nil}
-use Rattle.rules.specs.Files.{blank, trimStart, trimEnd, beforeEnd}
+use Rattle.rules.specs.Text.{blank, trimStart, trimEnd, beforeEnd}
 use Rattle.laws.specs.Listing.{list-more, list-end}
 
 -- a part of a part

@@ -5,7 +5,7 @@ use mathlib.Core.List.{List, [], _∷_}
 use lib.Dec.{leb}
 use lib.ListN.{length, take, drop}
 use Rattle.rules.specs.Vocabulary.{pick}
-use Rattle.rules.specs.Files.{linesOf}
+use Rattle.rules.specs.Text.{linesOf}
 
 -- none past the end
 unfoldable pub linesFrom : ℕ → List ℕ → List (List ℕ)

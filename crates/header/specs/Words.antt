@@ -4,7 +4,7 @@ use mathlib.Core.List.{List}
 use lib.Dec.{leb}
 use lib.ListN.{length}
 use Rattle.rules.specs.Vocabulary.{pick}
-use Rattle.rules.specs.Files.{wordAt}
+use Rattle.rules.specs.Text.{wordAt}
 use Rattle.header.specs.declared.Word.{Word}
 use Rattle.header.specs.declared.Word.the-variants.{Number, Missing}
 

@@ -1,6 +1,7 @@
 // What is read of a file besides its stitches: numbers, labels, stored colours.
 // A port of src/formats/read.rs of zigzag, changed.
 use rules::Color;
+use rules::DST_HEADER;
 use rules::Slot;
 ghost use mathlib.Core.Path.{_≡_};
 ghost use mathlib.Core.Bool.{_&&_};
@@ -10,7 +11,12 @@ ghost use lib.Dec.{leb};
 ghost use lib.IntN.{natAbs};
 ghost use lib.ListN.{length, take, drop, getD};
 ghost use Rattle.rules.specs.Vocabulary.{signed};
-ghost use Rattle.rules.specs.Files.{blank, trimStart, trimEnd, trimmed, linesOf, begins, lastLabel, hexDigit, hexPair, hexColor, sixDigits, dropHashes, beforeComma, lineColor, lineColors, slotAt, colorNumber, pecColor, wordAt, jefCount, jefColor};
+ghost use Rattle.rules.specs.Files.{colorNumber};
+ghost use Rattle.rules.specs.Text.{blank, trimStart, trimEnd, trimmed, linesOf, begins, wordAt};
+ghost use Rattle.rules.specs.Dst.{lastLabel, hexDigit, hexPair, hexColor, sixDigits, dropHashes, beforeComma, lineColor, lineColors};
+ghost use Rattle.rules.specs.Layout.{slotAt};
+ghost use Rattle.rules.specs.Pec.{pecColor};
+ghost use Rattle.rules.specs.Jef.{jefCount, jefColor};
 ghost use Rattle.rules.specs.Charts.{color, pecChart, jefChart};
 ghost use Rattle.header.specs.Words.{wordOf};
 ghost use Rattle.header.specs.Lines.{Line};
@@ -221,7 +227,7 @@ fn last_label_at(s: &[u8]) -> Span
 pub fn dst_label_at(file: &[u8]) -> Span
     ensures { λ r. ⌜ Holds r (now (file .entry)) (trimmed (lastLabel [] (linesOf (take 512 (now (file .entry)))))) ⌝ }
 {
-    let p = last_label_at(part(file, 0, 512));
+    let p = last_label_at(part(file, 0, DST_HEADER));
     trimmed_at(file, p.start, p.len)
 }
 
@@ -395,7 +401,7 @@ pub fn dst_colors(file: &[u8], colors: &mut [u32]) -> usize
     ensures { λ r. ⌜ r ≡ length (lineColors (linesOf (take 512 (now (file .entry))))) ⌝ }
     ensures { λ r. ⌜ take r (now (colors .exit)) ≡ map colorNumber (lineColors (linesOf (take 512 (now (file .entry))))) ⌝ }
 {
-    line_colors(part(file, 0, 512), colors)
+    line_colors(part(file, 0, DST_HEADER), colors)
 }
 
 // The byte k places after start; 0 where the file has ended.

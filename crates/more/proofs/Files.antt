@@ -8,7 +8,7 @@ use Rattle.rules.specs.Jef.{jefHeader, jefFile}
 use Rattle.rules.specs.Lists.{written}
 use Rattle.rules.specs.declared.Cmd.{Cmd}
 use Rattle.rules.specs.declared.Color.{Color}
-use Rattle.rules.specs.declared.Format.the-variants.{Jef}
+use Rattle.encode_cmd.specs.declared.Stream.the-variants.{Jef}
 use Rattle.encode_cmd.specs.Cmds.{cmdOf}
 
 pub length-file : (cs : List Cmd) (ts : List Color) → length (jefFile cs ts) ≡ length (jefHeader cs ts) + length (written (cmdOf Jef) (pos 0) (pos 0) cs)

@@ -3,6 +3,7 @@
 use checks::check_list;
 use encode::put_stream;
 use encode::stream_len;
+use encode_cmd::Stream;
 use rules::Format;
 use rules::Refusal;
 use rules::Verdict;
@@ -25,11 +26,11 @@ fn write_accepted(xs: &[i32], ys: &[i32], kinds: &[u8], out: &mut [u8]) -> Write
     requires { ⌜ (length (now kinds) ≤ 65535) × (stepTooLong Exp (commands (now xs) (now ys) (now kinds)) ≡ false) ⌝ }
     ensures { λ r. ⌜ Answered (expFile (commands (now (xs .entry)) (now (ys .entry)) (now (kinds .entry)))) (now (out .entry)) (now (out .exit)) r ⌝ }
 {
-    let n = stream_len(Format::Exp, xs, ys, kinds);
+    let n = stream_len(Stream::Exp, xs, ys, kinds);
     if out.len() < n {
         return WriteAnswer::Unwritten(Refusal::BufferTooShort);
     }
-    WriteAnswer::Written(put_stream(Format::Exp, xs, ys, kinds, out, 0))
+    WriteAnswer::Written(put_stream(Stream::Exp, xs, ys, kinds, out, 0))
 }
 
 // Writes a list as an EXP file to the front of the buffer: its length; or why it is refused, and the buffer as it was.

@@ -10,6 +10,7 @@ use emit::put2;
 use emit::spread;
 use encode::put_stream;
 use encode::stream_len;
+use encode_cmd::Stream;
 use formats::list_len;
 use formats::near_bounds;
 use formats::op_of;
@@ -228,7 +229,7 @@ fn put_file(xs: &[i32], ys: &[i32], kinds: &[u8], threads: &[u8], out: &mut [u8]
     ensures { λ r. ⌜ Put (now (out .entry)) (now (out .exit)) 0 r (jefFile (commands (now (xs .entry)) (now (ys .entry)) (now (kinds .entry))) (threadsOf (now (threads .entry)))) ⌝ }
 {
     let records = put_header(xs, ys, kinds, threads, out);
-    put_stream(Format::Jef, xs, ys, kinds, out, records)
+    put_stream(Stream::Jef, xs, ys, kinds, out, records)
 }
 
 // The file, or refusal 11.
@@ -243,7 +244,7 @@ fn write_accepted(
     requires { ⌜ placeOutside (commands (now xs) (now ys) (now kinds)) ≡ false ⌝ }
     ensures { λ r. ⌜ Answered (jefFile (commands (now (xs .entry)) (now (ys .entry)) (now (kinds .entry))) (threadsOf (now (threads .entry)))) (now (out .entry)) (now (out .exit)) r ⌝ }
 {
-    let n = 116 + 8 * table_len(threads) + stream_len(Format::Jef, xs, ys, kinds);
+    let n = 116 + 8 * table_len(threads) + stream_len(Stream::Jef, xs, ys, kinds);
     if out.len() < n {
         return WriteAnswer::Unwritten(Refusal::BufferTooShort);
     }

@@ -5,7 +5,8 @@ use native.Mathlib.Omega.{arith}
 use lib.IntN.{ℤ, pos, _+ℤ_}
 use lib.ListN.{length, drop, length-drop, length-append}
 use Rattle.rules.specs.Answers.{places, runs, blocks, pointsAfter, begunAfter}
-use Rattle.rules.specs.Files.{firstOf}
+use Rattle.rules.specs.Limits.{blockCells}
+use Rattle.records.specs.Firsts.{firstOf}
 use Rattle.rules.specs.Records.{Event, recordThen, events}
 use Rattle.rules.specs.declared.Format.{Format}
 use Rattle.rules.specs.declared.Record.{Record}
@@ -20,7 +21,7 @@ use Rattle.passes.specs.Told.{Fits, Ample}
 record Limits (N n m : ℕ) (es : List Event) : Type 0 where
   places : (x y : ℤ) → length (places x y n es) + 2 ≤ N + 2 * added n
   runs : 2 * length (runs n es) ≤ N + 2 * some n
-  blocks : (c : ℕ → ℕ) (k : ℕ) → 2 * length (blocks c k m n es) ≤ 3 * N + 6 * some m
+  blocks : (c : ℕ → ℕ) (k : ℕ) → 2 * length (blocks c k m n es) ≤ blockCells * N + 2 * blockCells * some m
 
 -- one record in front
 limits-next : (r : Record) (go : ℕ → List Event) (N n m : ℕ) → Near r N

@@ -8,7 +8,9 @@ use lib.IntN.{ℤ, pos, natAbs, _+ℤ_}
 use lib.ListN.{length, drop, length-drop, length-append}
 use lib.Seq.{sets, drop-drop}
 use Rattle.rules.specs.Answers.{places, runs, blocks, runOf, blockOf}
-use Rattle.rules.specs.Files.{firstOf, filled}
+use Rattle.rules.specs.Limits.{blockCells}
+use Rattle.rules.specs.Files.{filled}
+use Rattle.records.specs.Firsts.{firstOf}
 use Rattle.rules.specs.Records.{Event, recordThen, events}
 use Rattle.rules.specs.declared.Counts.{Counts}
 use Rattle.rules.specs.declared.Format.{Format}
@@ -39,7 +41,7 @@ module _ (f : Format) (bytes : List ℕ) where
   pub record Filling (c : ℕ → ℕ) (P₀ : List ℤ) (R₀ B₀ : List ℕ) (P : List ℤ) (R B : List ℕ) (b : Builder) (at : ℕ) : Type 0 where
     pub places : Writing P₀ 0 (placesIn (firstOf f) bytes) P (2 * b .points) (placesLeft b (eventsFrom at))
     pub runs : Writing R₀ 0 (runsIn (firstOf f) bytes) R (b .runs) (runsLeft b (eventsFrom at))
-    pub blocks : Writing B₀ 0 (blocksIn c (firstOf f) bytes) B (3 * b .blocks) (blocksLeft c b (eventsFrom at))
+    pub blocks : Writing B₀ 0 (blocksIn c (firstOf f) bytes) B (blockCells * b .blocks) (blocksLeft c b (eventsFrom at))
     pub bounded : Bounded b at
     pub within : at ≤ length bytes
 
@@ -47,7 +49,7 @@ module _ (f : Format) (bytes : List ℕ) where
   pub record Counting (b : Builder) (at : ℕ) : Type 0 where
     pub places : 2 * b .points + length (placesLeft b (eventsFrom at)) ≡ length (placesIn (firstOf f) bytes)
     pub runs : b .runs + length (runsLeft b (eventsFrom at)) ≡ length (runsIn (firstOf f) bytes)
-    pub blocks : (c : ℕ → ℕ) → 3 * b .blocks + length (blocksLeft c b (eventsFrom at)) ≡ length (blocksIn c (firstOf f) bytes)
+    pub blocks : (c : ℕ → ℕ) → blockCells * b .blocks + length (blocksLeft c b (eventsFrom at)) ≡ length (blocksIn c (firstOf f) bytes)
     pub bounded : Bounded b at
     pub within : at ≤ length bytes
 
@@ -146,7 +148,7 @@ module _ (f : Format) (bytes : List ℕ) where
           blocks = writing-room (blocksBy c b r) _ (g .blocks) (to-blocks c (b .x) (b .y));
         }
 
-        filling-next : Filling c P₀ R₀ B₀ (sets P (2 * b .points) (placesBy b r)) (sets R (b .runs) (runsBy b r)) (sets B (3 * b .blocks) (blocksBy c b r)) (moved b r) (placeAfter r at (length bytes))
+        filling-next : Filling c P₀ R₀ B₀ (sets P (2 * b .points) (placesBy b r)) (sets R (b .runs) (runsBy b r)) (sets B (blockCells * b .blocks) (blocksBy c b r)) (moved b r) (placeAfter r at (length bytes))
         filling-next =
             let x = b .x +ℤ dxOf r in
             let y = b .y +ℤ dyOf r in
@@ -160,7 +162,7 @@ module _ (f : Format) (bytes : List ℕ) where
 
         -- by what the calls gave
         pub filling-again : {q : Builder} {P′ : List ℤ} {R′ B′ : List ℕ} {n : ℕ} → q ≡ moved b r → P′ ≡ sets P (2 * b .points) (placesBy b r)
-            → R′ ≡ sets R (b .runs) (runsBy b r) → B′ ≡ sets B (3 * b .blocks) (blocksBy c b r) → n ≡ placeAfter r at (length bytes) → Filling c P₀ R₀ B₀ P′ R′ B′ q n
+            → R′ ≡ sets R (b .runs) (runsBy b r) → B′ ≡ sets B (blockCells * b .blocks) (blocksBy c b r) → n ≡ placeAfter r at (length bytes) → Filling c P₀ R₀ B₀ P′ R′ B′ q n
         filling-again eq eP eR eB en = rw (eq, eP, eR, eB, en) filling-next
 
       -- counting stays at (0, 0)
@@ -268,7 +270,7 @@ module _ (f : Format) (bytes : List ℕ) where
       pub room-run : b .runs + length (runOf (b .run)) ≤ length R
       room-run = writing-room (runOf (b .run)) [] (g .runs) last-run
 
-      pub room-block : 3 * b .blocks + length (blockOf c (b .block) (b .begun)) ≤ length B
+      pub room-block : blockCells * b .blocks + length (blockOf c (b .block) (b .begun)) ≤ length B
       room-block = writing-room (blockOf c (b .block) (b .begun)) [] (g .blocks) last-block
 
       module _ (fit : Fits c (firstOf f) bytes (length P₀) (length R₀) (length B₀)) where
@@ -280,6 +282,6 @@ module _ (f : Format) (bytes : List ℕ) where
         unfolding filled
         all-runs e = put-front (fit .runs) (writing-done (writing-more {vs = runOf (b .run)} (g .runs) last-run (record { ends = refl; stored = e })) refl) .1
 
-        pub all-blocks : {B′ : List ℕ} → B′ ≡ sets B (3 * b .blocks) (blockOf c (b .block) (b .begun)) → B′ ≡ filled Accepted (blocksIn c (firstOf f) bytes) B₀
+        pub all-blocks : {B′ : List ℕ} → B′ ≡ sets B (blockCells * b .blocks) (blockOf c (b .block) (b .begun)) → B′ ≡ filled Accepted (blocksIn c (firstOf f) bytes) B₀
         unfolding filled
         all-blocks e = put-front (fit .blocks) (writing-done (writing-more {vs = blockOf c (b .block) (b .begun)} (g .blocks) last-block (record { ends = refl; stored = e })) refl) .1

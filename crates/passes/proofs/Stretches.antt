@@ -8,7 +8,7 @@ use lib.IntN.{ℤ, natAbs, _+ℤ_}
 use lib.ListN.{length, drop, set, length-drop, length-append}
 use lib.Seq.{sets, length-sets, set-comm}
 use Rattle.rules.specs.Answers.{startOf}
-use Rattle.rules.specs.Files.{firstOf}
+use Rattle.records.specs.Firsts.{firstOf}
 use Rattle.rules.specs.declared.Format.{Format}
 use Rattle.rules.specs.declared.Record.{Record}
 use Rattle.laws.specs.Buffers.{sets-append}

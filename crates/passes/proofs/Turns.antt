@@ -7,6 +7,7 @@ use native.Mathlib.Omega.{arith}
 use lib.IntN.{ℤ, natAbs, _+ℤ_}
 use lib.ListN.{length, length-append}
 use Rattle.rules.specs.Answers.{places, runs, blocks, startOf, pointsAfter, begunAfter}
+use Rattle.rules.specs.Limits.{blockCells}
 use Rattle.rules.specs.Records.{Event, stitch, jump, change, recordThen}
 use Rattle.rules.specs.declared.Record.{Record}
 use Rattle.rules.specs.declared.Record.the-variants.{StitchBy, JumpBy, ChangeBy, Finish}
@@ -75,7 +76,7 @@ module _ (b : Builder) where
   runs-by (ChangeBy dx dy n) x y = rw (run-cells (b .run))
   runs-by Finish x y = omega arith
 
-  pub blocks-by : (c : ℕ → ℕ) (r : Record) (x y : ℤ) → 3 * followed b r x y .blocks ≡ 3 * b .blocks + length (blocksBy c b r)
+  pub blocks-by : (c : ℕ → ℕ) (r : Record) (x y : ℤ) → blockCells * followed b r x y .blocks ≡ blockCells * b .blocks + length (blocksBy c b r)
   blocks-by c (StitchBy dx dy n) x y = omega arith
   blocks-by c (JumpBy dx dy n) x y = omega arith
   blocks-by c (ChangeBy dx dy n) x y = omega (arith, block-cells c (b .block) (b .begun))

@@ -5,7 +5,7 @@ use mathlib.Core.List.{List, [], _∷_, _++_}
 use lib.IntN.{ℤ, natAbs, _+ℤ_}
 use lib.ListN.{drop}
 use lib.Seq.{sets}
-use Rattle.rules.specs.Files.{firstOf}
+use Rattle.records.specs.Firsts.{firstOf}
 use Rattle.rules.specs.declared.Format.{Format}
 use Rattle.rules.specs.declared.Record.{Record}
 use Rattle.rules.specs.declared.Record.the-variants.{StitchBy}

@@ -6,6 +6,7 @@ use lib.IntN.{ℤ, pos}
 use lib.ListN.{length}
 use Rattle.rules.specs.Records.{events}
 use Rattle.rules.specs.Answers.{places, runs, blocks}
+use Rattle.rules.specs.Limits.{blockCells}
 use Rattle.rules.specs.declared.Counts.{Counts}
 use Rattle.rules.specs.declared.Record.{Record}
 
@@ -22,7 +23,7 @@ blocksIn colour first bytes = blocks colour 0 0 0 (events first bytes)
 pub record Told (first : List ℕ → Record) (bytes : List ℕ) (c : Counts) : Type 0 where
   pub points : length (placesIn first bytes) ≡ 2 * c .points
   pub runs : length (runsIn first bytes) ≡ c .runs
-  pub blocks : (colour : ℕ → ℕ) → length (blocksIn colour first bytes) ≡ 3 * c .blocks
+  pub blocks : (colour : ℕ → ℕ) → length (blocksIn colour first bytes) ≡ blockCells * c .blocks
   pub cuts : c .cuts + c .blocks ≡ c .runs
 
 -- the answers fit buffers of np, nr and nb cells
@@ -35,4 +36,4 @@ pub record Fits (colour : ℕ → ℕ) (first : List ℕ → Record) (bytes : Li
 pub record Ample (n np nr nb : ℕ) : Type 0 where
   pub places : n + 2 ≤ np
   pub runs : n / 2 ≤ nr
-  pub blocks : 3 * n / 2 ≤ nb
+  pub blocks : blockCells * n / 2 ≤ nb

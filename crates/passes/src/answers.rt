@@ -11,6 +11,7 @@ use builder::jump;
 use builder::opens;
 use builder::stitch;
 use builder::sum;
+use rules::BLOCK_CELLS;
 use rules::Record;
 ghost use mathlib.Core.Path.{_≡_};
 ghost use mathlib.Core.List.{[], _∷_, _++_};
@@ -19,6 +20,7 @@ ghost use lib.IntN.{_+ℤ_};
 ghost use lib.ListN.{length};
 ghost use lib.Seq.{sets};
 ghost use Rattle.rules.specs.Answers.{startOf, runOf, blockOf};
+ghost use Rattle.rules.specs.Limits.{blockCells};
 ghost use Rattle.records.specs.Fields.{dxOf, dyOf};
 ghost use Rattle.builder.specs.Builders.{Small, Reach, sewn, startBy, followed, placesBy, runsBy, blocksBy, Holds};
 ghost use Rattle.builder.specs.Colour.{colourIn};
@@ -72,13 +74,13 @@ fn put_run(b: Builder, runs: &mut [u32])
 
 // The block, if it has runs: number, colour, runs.
 fn put_block(b: Builder, colors: &[u32], blocks: &mut [u32])
-    requires { ⌜ 3 * b .blocks + length (blockOf (colourIn (now colors)) (b .block) (b .begun)) ≤ length (now blocks) ⌝ }
-    ensures { λ _. ⌜ now (blocks .exit) ≡ sets (now (blocks .entry)) (3 * b .blocks) (blockOf (colourIn (now (colors .entry))) (b .block) (b .begun)) ⌝ }
+    requires { ⌜ blockCells * b .blocks + length (blockOf (colourIn (now colors)) (b .block) (b .begun)) ≤ length (now blocks) ⌝ }
+    ensures { λ _. ⌜ now (blocks .exit) ≡ sets (now (blocks .entry)) (blockCells * b .blocks) (blockOf (colourIn (now (colors .entry))) (b .block) (b .begun)) ⌝ }
 {
     if b.begun == 0 {
         return;
     }
-    let at = 3 * (b.blocks as usize);
+    let at = BLOCK_CELLS * (b.blocks as usize);
     blocks[at] = b.block;
     blocks[at + 1] = color_of(colors, b.block);
     blocks[at + 2] = b.begun;
@@ -99,9 +101,9 @@ pub fn after_stretch(b: Builder, k: Stretch, places: &mut [i32]) -> Builder
 // The run and the block that are open when nothing more comes.
 pub fn close(b: Builder, colors: &[u32], runs: &mut [u32], blocks: &mut [u32])
     requires { ⌜ b .runs + length (runOf (b .run)) ≤ length (now runs) ⌝ }
-    requires { ⌜ 3 * b .blocks + length (blockOf (colourIn (now colors)) (b .block) (b .begun)) ≤ length (now blocks) ⌝ }
+    requires { ⌜ blockCells * b .blocks + length (blockOf (colourIn (now colors)) (b .block) (b .begun)) ≤ length (now blocks) ⌝ }
     ensures { λ _. ⌜ now (runs .exit) ≡ sets (now (runs .entry)) (b .runs) (runOf (b .run)) ⌝ }
-    ensures { λ _. ⌜ now (blocks .exit) ≡ sets (now (blocks .entry)) (3 * b .blocks) (blockOf (colourIn (now (colors .entry))) (b .block) (b .begun)) ⌝ }
+    ensures { λ _. ⌜ now (blocks .exit) ≡ sets (now (blocks .entry)) (blockCells * b .blocks) (blockOf (colourIn (now (colors .entry))) (b .block) (b .begun)) ⌝ }
 {
     put_run(b, runs);
     put_block(b, colors, blocks);
@@ -122,7 +124,7 @@ pub fn write(
     ensures { λ q. ⌜ q ≡ followed b r (b .x +ℤ dxOf r) (b .y +ℤ dyOf r) ⌝ }
     ensures { λ _. ⌜ now (places .exit) ≡ sets (now (places .entry)) (2 * b .points) (placesBy b r) ⌝ }
     ensures { λ _. ⌜ now (runs .exit) ≡ sets (now (runs .entry)) (b .runs) (runsBy b r) ⌝ }
-    ensures { λ _. ⌜ now (blocks .exit) ≡ sets (now (blocks .entry)) (3 * b .blocks) (blocksBy (colourIn (now (colors .entry))) b r) ⌝ }
+    ensures { λ _. ⌜ now (blocks .exit) ≡ sets (now (blocks .entry)) (blockCells * b .blocks) (blocksBy (colourIn (now (colors .entry))) b r) ⌝ }
 {
     let x = sum(b.x, dx_of(r));
     let y = sum(b.y, dy_of(r));

@@ -16,13 +16,15 @@ use builder::new;
 use builder::opens;
 use builder::place_after;
 use records::record_at;
+use rules::BLOCK_CELLS;
 use rules::Counts;
 use rules::Format;
 ghost use mathlib.Core.Bool.{true};
 ghost use mathlib.Core.Path.{_≡_};
 ghost use Prim.Native.Nat.{_≤_};
 ghost use lib.ListN.{length};
-ghost use Rattle.rules.specs.Files.{firstOf, filled};
+ghost use Rattle.rules.specs.Files.{filled};
+ghost use Rattle.records.specs.Firsts.{firstOf};
 ghost use Rattle.rules.specs.declared.Verdict.the-variants.{Accepted};
 ghost use Rattle.builder.specs.Colour.{colourIn};
 ghost use Rattle.passes.specs.Told.{placesIn, runsIn, blocksIn, Told, Fits, Ample};
@@ -87,5 +89,5 @@ pub fn ample(n: usize, places: usize, runs: usize, blocks: usize) -> bool
     if runs < n / 2 {
         return false;
     }
-    3 * n / 2 <= blocks
+    BLOCK_CELLS * n / 2 <= blocks
 }

@@ -11,9 +11,9 @@ use lib.Signed.{mag}
 use mir.Syntax.{w32}
 use mir.Val.{hbits, toZ, ofZ}
 use Rattle.rules.specs.Vocabulary.{between}
-use Rattle.rules.specs.Lists.{opOf, commands, anyFrom, stepIn, leastStep, greatestStep}
+use Rattle.rules.specs.Lists.{opOf, commands, anyFrom}
 use Rattle.rules.specs.Pec.{PecState, pecNext, pecValue, pause, pecCmd, pecStitches}
-use Rattle.rules.specs.Refusals.{stepsPast}
+use Rattle.rules.specs.Refusals.{stepsPast, stepIn, leastStep, greatestStep}
 use Rattle.rules.specs.declared.Cmd.{Cmd}
 use Rattle.rules.specs.declared.Format.the-variants.{Pec}
 use Rattle.rules.specs.declared.Op.{Op}

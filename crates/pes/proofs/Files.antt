@@ -6,10 +6,10 @@ use native.Mathlib.Omega.{arith}
 use lib.IntN.{ℤ}
 use lib.ListN.{length, length-append}
 use Rattle.rules.specs.Vocabulary.{little, joined}
-use Rattle.rules.specs.Lists.{commands, minX, maxY, stepIn, leastStep, greatestStep}
+use Rattle.rules.specs.Lists.{commands, minX, maxY}
 use Rattle.rules.specs.Pec.{pecPart}
 use Rattle.rules.specs.Pes.{pesStart, shorts, pesBlocks, pesMiddle, pesFile}
-use Rattle.rules.specs.Refusals.{stepsPast, stepTooLong}
+use Rattle.rules.specs.Refusals.{stepsPast, stepTooLong, stepIn, leastStep, greatestStep}
 use Rattle.rules.specs.declared.Cmd.{Cmd}
 use Rattle.rules.specs.declared.Color.{Color}
 use Rattle.rules.specs.declared.Format.the-variants.{Pes, Pec}

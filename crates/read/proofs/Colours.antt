@@ -8,7 +8,8 @@ use lib.IntN.{ℤ}
 use lib.ListN.{length, take, getD, List·getD-eq-default}
 use lib.Seq.{getD-take, length-take-le}
 use Rattle.rules.specs.Answers.{blocks, blockOf, pointsAfter, begunAfter}
-use Rattle.rules.specs.Files.{firstOf, orDefault}
+use Rattle.rules.specs.Files.{orDefault}
+use Rattle.records.specs.Firsts.{firstOf}
 use Rattle.rules.specs.Records.{Event, stitch, jump, change, events}
 use Rattle.rules.specs.declared.Format.{Format}
 use Rattle.rules.specs.declared.ReadAnswer.{ReadAnswer}

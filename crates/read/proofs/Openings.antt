@@ -1,16 +1,22 @@
 -- What a file's opening says of the file, and the verdict of the whole read. Assumes nothing.
 use Prim.Native.Nat.{ℕ, _+_, _≤_, _<_}
 use mathlib.Core.Path.{_≡_, refl, sym, subst}
-use mathlib.Core.Bool.{false}
+use mathlib.Core.Bool.{false, not}
 use mathlib.Core.List.{List, [], _∷_}
 use native.Mathlib.Omega.{arith}
 use types.Run.{OneOf}
 use borrow.Author.Tests.{ltb-false, leb-false}
 use denote.Enum.Declared.{tagOf}
 use lib.Dec.{ltb}
-use lib.IntN.{ℤ}
+use lib.IntN.{ℤ, pos}
+use lib.Signed.{ltZ}
 use lib.ListN.{length, drop}
-use Rattle.rules.specs.Files.{firstOf, partStart, stitchBytes, eventsOf, placesOf, runsOf, blocksOf, colourOf, stored, orDefault, pecColor, countsOf, fileRefusals, notPes, tooShort, startBelowZero, noCount, noRoom, readVerdict, readAnswer, filled}
+use Rattle.rules.specs.Files.{eventsOf, placesOf, runsOf, blocksOf, colourOf, stored, orDefault, countsOf, fileRefusals, noRoom, readVerdict, readAnswer, filled}
+use Rattle.records.specs.Firsts.{firstOf}
+use Rattle.rules.specs.Text.{wordAt, begins}
+use Rattle.rules.specs.Pec.{pecEvents, pecColor, noCount}
+use Rattle.rules.specs.Pes.{partAt}
+use Rattle.rules.specs.Formats.{layoutOf}
 use Rattle.rules.proofs.Format.{the-type}
 use Rattle.rules.specs.Refusals.{verdict}
 use Rattle.rules.specs.declared.Extension.the-variants.{Of}
@@ -22,9 +28,9 @@ use Rattle.rules.specs.declared.Verdict.{Verdict}
 use Rattle.rules.specs.declared.Verdict.the-variants.{Accepted, Refused}
 use Rattle.laws.specs.Arms.{pes-pec}
 use Rattle.laws.specs.Verdicts.{first-false, verdict-on, verdict-stop}
-use Rattle.front.specs.Openings.{started, frontOf}
+use Rattle.front.specs.Openings.{partStart, started, frontOf}
 use Rattle.front.specs.declared.Opening.the-variants.{At, Not}
-use Rattle.read.specs.Answered.{Opened, roomVerdict, Given, Answered}
+use Rattle.read.specs.Answered.{Opened, roomVerdict, Answered, FileAnswered}
 
 never : {n : ℕ} {r : Refusal} → At n ≡ Not r → ⊥
 never e = let z : _≡_ {A = ℕ} 0 1 = cc in omega arith
@@ -52,13 +58,7 @@ module _ (f : Format) (s : List ℕ) where
   unfolding readVerdict noRoom roomVerdict
   open-verdict o n m k = verdict-on (fileRefusals f s) _ (o .accepted)
 
-  -- the answers of the file, as its stitches give them
-  pub file-given : {P P′ : List ℤ} {R R′ B B′ : List ℕ} {r : ReadAnswer} → Answered (colourOf f s) f (stitchBytes f s) P P′ R R′ B B′ r
-      → Given (placesOf f s) P P′ (runsOf f s) R R′ (blocksOf f s) B B′ r
-  unfolding placesOf runsOf blocksOf eventsOf
-  file-given g = g
-
-  module _ {start : ℕ} (o : Opened f s start) {P P′ : List ℤ} {R R′ B B′ : List ℕ} {r : ReadAnswer} (g : Given (placesOf f s) P P′ (runsOf f s) R R′ (blocksOf f s) B B′ r) where
+  module _ {start : ℕ} (o : Opened f s start) {P P′ : List ℤ} {R R′ B B′ : List ℕ} {r : ReadAnswer} (g : FileAnswered f s P P′ R R′ B B′ r) where
     v : readVerdict (Of f) s (length P) (length R) (length B) ≡ roomVerdict (placesOf f s) (runsOf f s) (blocksOf f s) (length P) (length R) (length B)
     v = open-verdict o (length P) (length R) (length B)
 
@@ -76,36 +76,30 @@ module _ (f : Format) (s : List ℕ) where
 
 -- ---- what each format needs of the checks
 
-record Passed (f : Format) (s : List ℕ) : Type 0 where
-  short : ltb 2097152 (length s) ≡ false
-  long : tooShort f s ≡ false
-  counted : noCount f s ≡ false
-
 module _ {s : List ℕ} {start : ℕ} where
-  passed : (f : Format) → Opened f s start → Passed f s
+  passed : (f : Format) → Opened f s start → (ltb 2097152 (length s) ≡ false) × (verdict (layoutOf f .refusals s) ≡ Accepted)
   unfolding fileRefusals verdict
-  passed f o =
-      let a = first-false (ltb 2097152 (length s)) _ _ (o .accepted) in
-      let b = first-false (notPes f s) _ _ (a .1) in
-      let c = first-false (tooShort f s) _ _ (b .1) in
-      let d = first-false (startBelowZero f s) _ _ (c .1) in
-      let e = first-false (noCount f s) _ _ (d .1) in
-      record { short = a .0; long = c .0; counted = e .0 }
+  passed f o = first-false (ltb 2097152 (length s)) _ _ (o .accepted)
 
   pub not-long : (f : Format) → Opened f s start → length s ≤ 2097152
-  not-long f o = ltb-false 2097152 (length s) (passed f o .short)
+  not-long f o = ltb-false 2097152 (length s) (passed f o .0)
 
   pub pes-counted : Opened Pes s start → start + 48 < length s
-  unfolding noCount
-  pes-counted o = rw (o .begins) (leb-false (length s) (partStart Pes s + 48) (passed Pes o .counted))
+  unfolding verdict noCount partStart
+  pes-counted o =
+      let a = first-false (not (begins (0x23 ∷ 0x50 ∷ 0x45 ∷ 0x53 ∷ []) s)) _ _ (passed Pes o .1) in
+      let b = first-false (ltb (length s) 12) _ _ (a .1) in
+      let c = first-false (ltZ (wordAt 8 s) (pos 0)) _ _ (b .1) in
+      let d = first-false (noCount (partAt s) s) _ _ (c .1) in
+      rw (o .begins) (leb-false (length s) (partAt s + 48) (d .0))
 
   pub pec-counted : Opened Pec s start → start + 48 < length s
-  unfolding noCount
-  pec-counted o = rw (o .begins) (leb-false (length s) (partStart Pec s + 48) (passed Pec o .counted))
+  unfolding verdict noCount partStart
+  pec-counted o = rw (o .begins) (leb-false (length s) 56 (first-false (noCount 8 s) _ _ (passed Pec o .1) .0))
 
   pub jef-offset : Opened Jef s start → 4 ≤ length s
-  unfolding tooShort
-  jef-offset o = ltb-false (length s) 4 (passed Jef o .long)
+  unfolding verdict
+  jef-offset o = ltb-false (length s) 4 (first-false (ltb (length s) 4) _ _ (passed Jef o .1) .0)
 
 -- ---- the arm of PES and PEC
 
@@ -116,13 +110,13 @@ module _ {s : List ℕ} {start : ℕ} where
       (λ p. (not-long Pes p, omega (arith, pes-counted p))) (λ p. (not-long Pec p, omega (arith, pec-counted p))) f k o
 
   module _ {P P′ : List ℤ} {R R′ B B′ : List ℕ} {r : ReadAnswer} (g : Answered (λ k. orDefault (pecColor start s k) k) Pec (drop (start + 528) s) P P′ R R′ B B′ r) where
-    as-pes : Opened Pes s start → Answered (colourOf Pes s) Pes (stitchBytes Pes s) P P′ R R′ B B′ r
-    unfolding firstOf colourOf stored stitchBytes
+    as-pes : Opened Pes s start → FileAnswered Pes s P P′ R R′ B B′ r
+    unfolding placesOf runsOf blocksOf eventsOf pecEvents firstOf colourOf stored partStart
     as-pes o = subst (λ (n : ℕ). Answered (λ k. orDefault (pecColor n s k) k) Pec (drop (n + 528) s) P P′ R R′ B B′ r) (o .begins) g
 
-    as-pec : Opened Pec s start → Answered (colourOf Pec s) Pec (stitchBytes Pec s) P P′ R R′ B B′ r
-    unfolding firstOf colourOf stored stitchBytes
+    as-pec : Opened Pec s start → FileAnswered Pec s P P′ R R′ B B′ r
+    unfolding placesOf runsOf blocksOf eventsOf pecEvents firstOf colourOf stored partStart
     as-pec o = subst (λ (n : ℕ). Answered (λ k. orDefault (pecColor n s k) k) Pec (drop (n + 528) s) P P′ R R′ B B′ r) (o .begins) g
 
-    pub part-answered : (f : Format) → OneOf (0 ∷ 1 ∷ []) (tagOf the-type f) → Opened f s start → Answered (colourOf f s) f (stitchBytes f s) P P′ R R′ B B′ r
-    part-answered f k o = pes-pec (λ (h : Format). Opened h s start → Answered (colourOf h s) h (stitchBytes h s) P P′ R R′ B B′ r) as-pes as-pec f k o
+    pub part-answered : (f : Format) → OneOf (0 ∷ 1 ∷ []) (tagOf the-type f) → Opened f s start → FileAnswered f s P P′ R R′ B B′ r
+    part-answered f k o = pes-pec (λ (h : Format). Opened h s start → FileAnswered h s P P′ R R′ B B′ r) as-pes as-pec f k o

@@ -9,6 +9,7 @@ use lib.Dec.{leb}
 use lib.IntN.{ℤ}
 use lib.ListN.{length}
 use Rattle.rules.specs.Answers.{pointTotal, blockTotal, cuts}
+use Rattle.rules.specs.Limits.{blockCells}
 use Rattle.rules.specs.Files.{countsOf, readAnswer, filled}
 use Rattle.rules.specs.Refusals.{verdict}
 use Rattle.rules.specs.declared.Counts.{Counts}
@@ -38,11 +39,11 @@ module _ {first : List ℕ → Record} {bytes : List ℕ} {k : Counts} (c : ℕ 
     pub fits-told : roomFor k np nr nb ≡ true → Fits c first bytes np nr nb
     unfolding roomFor
     fits-told e =
-        let more = and-right (leb (2 * k .points) np) (leb (k .runs) nr && leb (3 * k .blocks) nb) e in
+        let more = and-right (leb (2 * k .points) np) (leb (k .runs) nr && leb (blockCells * k .blocks) nb) e in
         record {
           places = omega (arith, t .points, leb-true (2 * k .points) np (and-left _ _ e));
           runs = omega (arith, t .runs, leb-true (k .runs) nr (and-left _ _ more));
-          blocks = omega (arith, t .blocks c, leb-true (3 * k .blocks) nb (and-right (leb (k .runs) nr) _ more));
+          blocks = omega (arith, t .blocks c, leb-true (blockCells * k .blocks) nb (and-right (leb (k .runs) nr) _ more));
         }
 
     no-room : roomFor k np nr nb ≡ false → roomVerdict (placesIn first bytes) (runsIn first bytes) (blocksIn c first bytes) np nr nb ≡ Refused BufferTooShort
@@ -51,9 +52,9 @@ module _ {first : List ℕ → Record} {bytes : List ℕ} {k : Counts} (c : ℕ 
         rw (t .points, t .runs, t .blocks c)
         (by-test (leb (2 * k .points) np)
         (λ p. by-test (leb (k .runs) nr)
-        (λ q. by-test (leb (3 * k .blocks) nb)
+        (λ q. by-test (leb (blockCells * k .blocks) nb)
         (λ s. false-true (sym (rw (p, q, s) at e)))
-        (λ s. rw (le-ltb np (2 * k .points) (leb-true _ _ p), le-ltb nr (k .runs) (leb-true _ _ q), lt-ltb nb (3 * k .blocks) (leb-false _ _ s))))
+        (λ s. rw (le-ltb np (2 * k .points) (leb-true _ _ p), le-ltb nr (k .runs) (leb-true _ _ q), lt-ltb nb (blockCells * k .blocks) (leb-false _ _ s))))
         (λ q. rw (le-ltb np (2 * k .points) (leb-true _ _ p), lt-ltb nr (k .runs) (leb-false _ _ q))))
         (λ p. rw (lt-ltb np (2 * k .points) (leb-false _ _ p))))
 

@@ -6,7 +6,9 @@ use mathlib.Core.List.{List, [], _∷_}
 use lib.Dec.{ltb, leb}
 use lib.IntN.{ℤ}
 use lib.ListN.{length}
-use Rattle.rules.specs.Files.{firstOf, partStart, fileRefusals, countsOf, readAnswer, filled}
+use Rattle.rules.specs.Limits.{blockCells}
+use Rattle.rules.specs.Files.{placesOf, runsOf, blocksOf, fileRefusals, countsOf, readAnswer, filled}
+use Rattle.records.specs.Firsts.{firstOf}
 use Rattle.rules.specs.Refusals.{verdict}
 use Rattle.rules.specs.declared.Counts.{Counts}
 use Rattle.rules.specs.declared.Format.{Format}
@@ -14,6 +16,7 @@ use Rattle.rules.specs.declared.ReadAnswer.{ReadAnswer}
 use Rattle.rules.specs.declared.Refusal.the-variants.{BufferTooShort}
 use Rattle.rules.specs.declared.Verdict.{Verdict}
 use Rattle.rules.specs.declared.Verdict.the-variants.{Accepted}
+use Rattle.front.specs.Openings.{partStart}
 use Rattle.passes.specs.Told.{placesIn, runsIn, blocksIn}
 
 -- the file is not refused, and its part begins at start
@@ -23,7 +26,7 @@ pub record Opened (f : Format) (s : List ℕ) (start : ℕ) : Type 0 where
 
 -- answers of these counts fit buffers of np, nr and nb cells
 unfoldable pub roomFor : Counts → ℕ → ℕ → ℕ → Bool
-roomFor c np nr nb = leb (2 * c .points) np && (leb (c .runs) nr && leb (3 * c .blocks) nb)
+roomFor c np nr nb = leb (2 * c .points) np && (leb (c .runs) nr && leb (blockCells * c .blocks) nb)
 
 -- refusal 11 or none
 unfoldable pub roomVerdict : List ℤ → List ℕ → List ℕ → ℕ → ℕ → ℕ → Verdict
@@ -39,3 +42,7 @@ pub record Given (ps P P′ : List ℤ) (rs R R′ bs B B′ : List ℕ) (r : Re
 -- the answers of the records in bytes, c giving a block's colour
 abbrev pub Answered : (ℕ → ℕ) → Format → List ℕ → List ℤ → List ℤ → List ℕ → List ℕ → List ℕ → List ℕ → ReadAnswer → Type 0
 Answered c f bytes P P′ R R′ B B′ r = Given (placesIn (firstOf f) bytes) P P′ (runsIn (firstOf f) bytes) R R′ (blocksIn c (firstOf f) bytes) B B′ r
+
+-- the answers of a file of format f
+abbrev pub FileAnswered : Format → List ℕ → List ℤ → List ℤ → List ℕ → List ℕ → List ℕ → List ℕ → ReadAnswer → Type 0
+FileAnswered f s P P′ R R′ B B′ r = Given (placesOf f s) P P′ (runsOf f s) R R′ (blocksOf f s) B B′ r

@@ -12,7 +12,9 @@ use header::pec_colors;
 use passes::ample;
 use passes::count;
 use passes::fill;
+use rules::BLOCK_CELLS;
 use rules::Counts;
+use rules::DST_HEADER;
 use rules::Extension;
 use rules::Format;
 use rules::ReadAnswer;
@@ -21,12 +23,14 @@ ghost use mathlib.Core.Path.{_≡_};
 ghost use mathlib.Core.Bool.{false};
 ghost use Prim.Native.Nat.{_+_, _≤_, _<_};
 ghost use lib.ListN.{length, drop};
-ghost use Rattle.rules.specs.Files.{stitchBytes, pecColor, orDefault, colourOf, placesOf, runsOf, blocksOf, placesTold, runsTold, blocksTold, countsOf, readVerdict, readAnswer, filled};
+ghost use Rattle.rules.specs.Files.{orDefault, placesOf, runsOf, blocksOf, placesTold, runsTold, blocksTold, countsOf, readVerdict, readAnswer, filled};
+ghost use Rattle.rules.specs.Pec.{pecColor};
+ghost use Rattle.rules.specs.Jef.{jefRecords};
 ghost use Rattle.rules.specs.Refusals.{extensionOf};
 ghost use Rattle.rules.specs.declared.Extension.the-variants.{Of};
 ghost use Rattle.rules.specs.declared.Format.the-variants.{Pec, Dst, Exp, Jef};
 ghost use Rattle.builder.specs.Colour.{colourIn};
-ghost use Rattle.read.specs.Answered.{Answered, Opened, roomFor};
+ghost use Rattle.read.specs.Answered.{Answered, FileAnswered, Opened, roomFor};
 
 // Whether the answers fit: refusal 11 if not.
 fn has_room(c: Counts, places: usize, runs: usize, blocks: usize) -> bool
@@ -38,7 +42,7 @@ fn has_room(c: Counts, places: usize, runs: usize, blocks: usize) -> bool
     if runs < (c.runs as usize) {
         return false;
     }
-    3 * (c.blocks as usize) <= blocks
+    BLOCK_CELLS * (c.blocks as usize) <= blocks
 }
 
 // The answers of the records in bytes. They are counted first, unless the buffers are ample.
@@ -95,13 +99,13 @@ fn read_pec(
 
 fn read_dst(file: &[u8], places: &mut [i32], runs: &mut [u32], blocks: &mut [u32]) -> ReadAnswer
     requires { ⌜ length (now file) ≤ 2097152 ⌝ }
-    ensures { λ r. ⌜ Answered (colourOf Dst (now (file .entry))) Dst (stitchBytes Dst (now (file .entry))) (now (places .entry)) (now (places .exit)) (now (runs .entry)) (now (runs .exit)) (now (blocks .entry)) (now (blocks .exit)) r ⌝ }
+    ensures { λ r. ⌜ FileAnswered Dst (now (file .entry)) (now (places .entry)) (now (places .exit)) (now (runs .entry)) (now (runs .exit)) (now (blocks .entry)) (now (blocks .exit)) r ⌝ }
 {
     let mut colors = [0u32; 256];
     let n = dst_colors(file, &mut colors);
     read_records(
         Format::Dst,
-        rest(file, 512),
+        rest(file, DST_HEADER),
         &colors[..n],
         places,
         runs,
@@ -112,7 +116,7 @@ fn read_dst(file: &[u8], places: &mut [i32], runs: &mut [u32], blocks: &mut [u32
 // EXP stores no colours.
 fn read_exp(file: &[u8], places: &mut [i32], runs: &mut [u32], blocks: &mut [u32]) -> ReadAnswer
     requires { ⌜ length (now file) ≤ 2097152 ⌝ }
-    ensures { λ r. ⌜ Answered (colourOf Exp (now (file .entry))) Exp (stitchBytes Exp (now (file .entry))) (now (places .entry)) (now (places .exit)) (now (runs .entry)) (now (runs .exit)) (now (blocks .entry)) (now (blocks .exit)) r ⌝ }
+    ensures { λ r. ⌜ FileAnswered Exp (now (file .entry)) (now (places .entry)) (now (places .exit)) (now (runs .entry)) (now (runs .exit)) (now (blocks .entry)) (now (blocks .exit)) r ⌝ }
 {
     let none = [0u32; 1];
     read_records(Format::Exp, file, &none[..0], places, runs, blocks)
@@ -121,7 +125,7 @@ fn read_exp(file: &[u8], places: &mut [i32], runs: &mut [u32], blocks: &mut [u32
 // The stitches of a JEF file: from its offset on, none if that is below zero.
 fn jef_stitches(file: &[u8]) -> &[u8]
     requires { ⌜ 4 ≤ length (now file) ⌝ }
-    ensures { λ r. ⌜ now r ≡ stitchBytes Jef (now (file .entry)) ⌝ }
+    ensures { λ r. ⌜ now r ≡ jefRecords (now (file .entry)) ⌝ }
 {
     let word = i32le(file, 0);
     let Word::Number(offset) = word else {
@@ -135,7 +139,7 @@ fn jef_stitches(file: &[u8]) -> &[u8]
 
 fn read_jef(file: &[u8], places: &mut [i32], runs: &mut [u32], blocks: &mut [u32]) -> ReadAnswer
     requires { ⌜ (length (now file) ≤ 2097152) × (4 ≤ length (now file)) ⌝ }
-    ensures { λ r. ⌜ Answered (colourOf Jef (now (file .entry))) Jef (stitchBytes Jef (now (file .entry))) (now (places .entry)) (now (places .exit)) (now (runs .entry)) (now (runs .exit)) (now (blocks .entry)) (now (blocks .exit)) r ⌝ }
+    ensures { λ r. ⌜ FileAnswered Jef (now (file .entry)) (now (places .entry)) (now (places .exit)) (now (runs .entry)) (now (runs .exit)) (now (blocks .entry)) (now (blocks .exit)) r ⌝ }
 {
     let mut colors = [0u32; 256];
     let n = jef_colors(file, &mut colors);
@@ -159,7 +163,7 @@ fn read_part(
     blocks: &mut [u32],
 ) -> ReadAnswer
     requires { ⌜ Opened f (now file) start ⌝ }
-    ensures { λ r. ⌜ Answered (colourOf f (now (file .entry))) f (stitchBytes f (now (file .entry))) (now (places .entry)) (now (places .exit)) (now (runs .entry)) (now (runs .exit)) (now (blocks .entry)) (now (blocks .exit)) r ⌝ }
+    ensures { λ r. ⌜ FileAnswered f (now (file .entry)) (now (places .entry)) (now (places .exit)) (now (runs .entry)) (now (runs .exit)) (now (blocks .entry)) (now (blocks .exit)) r ⌝ }
 {
     match f {
         Format::Pes | Format::Pec => read_pec(file, start, places, runs, blocks),

@@ -11,7 +11,7 @@ use Rattle.rules.specs.Vocabulary.{pick, signed}
 use Rattle.rules.specs.Exp.{two, control, after80, pairFirst}
 use Rattle.rules.specs.Dst.{bit, weigh, dstX, dstY, under, dstRecord, dstFirst}
 use Rattle.rules.specs.Pec.{Axis, axis, none, longAxis, axisOf, afterAxis, bothAxes, starts, pecChange, pecFirst}
-use Rattle.rules.specs.Files.{firstOf}
+use Rattle.records.specs.Firsts.{firstOf}
 use Rattle.rules.specs.declared.Format.{Format}
 use Rattle.rules.specs.declared.Format.the-variants.{Pes, Pec, Dst, Exp, Jef}
 use Rattle.rules.specs.declared.Record.{Record}

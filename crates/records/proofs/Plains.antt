@@ -17,7 +17,7 @@ use mir.Val.{SFits, toZ, ofZ}
 use Rattle.rules.specs.Vocabulary.{pick, signed}
 use Rattle.rules.specs.Dst.{dstX, dstY, under, dstRecord, dstFirst}
 use Rattle.rules.specs.Exp.{pairFirst}
-use Rattle.rules.specs.Files.{firstOf}
+use Rattle.records.specs.Firsts.{firstOf}
 use Rattle.rules.specs.Pec.{axis, longAxis, axisOf, afterAxis, bothAxes, pecFirst}
 use Rattle.rules.specs.declared.Format.{Format}
 use Rattle.rules.specs.declared.Format.the-variants.{Pes, Pec, Dst, Exp, Jef}

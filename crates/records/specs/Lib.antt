@@ -1,3 +1,4 @@
+pub mod Firsts
 pub mod Fields
 pub mod Axes
 pub mod Plain

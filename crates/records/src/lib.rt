@@ -13,7 +13,7 @@ use rules::Format;
 use rules::Record;
 ghost use mathlib.Core.Path.{_≡_};
 ghost use lib.ListN.{drop};
-ghost use Rattle.rules.specs.Files.{firstOf};
+ghost use Rattle.records.specs.Firsts.{firstOf};
 
 // One record, from byte `at` of the stitches; `Finish` from their end on.
 pub fn record_at(f: Format, file: &[u8], at: usize) -> Record

@@ -15,7 +15,7 @@ ghost use lib.Dec.{ltb};
 ghost use lib.ListN.{length, drop};
 ghost use Rattle.rules.specs.Dst.{dstFirst};
 ghost use Rattle.rules.specs.Exp.{pairFirst};
-ghost use Rattle.rules.specs.Files.{firstOf};
+ghost use Rattle.records.specs.Firsts.{firstOf};
 ghost use Rattle.rules.specs.Pec.{pecFirst};
 ghost use Rattle.records.specs.Fields.{dxOf, dyOf};
 ghost use Rattle.records.specs.Plain.{pairLen, dstLen, pecLen, wideLen, plainLen, axisStep};

@@ -11,6 +11,7 @@ use replay::Outcome;
 use replay::bytes::byte;
 use replay::bytes::word;
 use replay::verdict;
+use rules::BLOCK_CELLS;
 use rules::Counts;
 use rules::ReadAnswer;
 use rules::Refusal;
@@ -50,12 +51,12 @@ fn rest_stays(c: Counts, places: &[i32], runs: &[u32], blocks: &[u32]) -> bool {
     if !cells_stay(runs, c.runs as usize) {
         return false;
     }
-    cells_stay(blocks, 3 * (c.blocks as usize))
+    cells_stay(blocks, BLOCK_CELLS * (c.blocks as usize))
 }
 
 // The blocks of the stored answer, behind their count; and the counts.
 fn blocks_same(told: &[u8], c: Counts, places: &[i32], runs: &[u32], blocks: &[u32]) -> bool {
-    let n = 3 * (c.blocks as usize);
+    let n = BLOCK_CELLS * (c.blocks as usize);
     if blocks.len() < n {
         return false;
     }

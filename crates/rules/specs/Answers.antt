@@ -4,6 +4,7 @@ use Prim.Native.Nat.{ℕ, zero, suc, _-_, _/_}
 use mathlib.Core.List.{List, [], _∷_, _++_}
 use lib.IntN.{ℤ, _+ℤ_}
 use lib.ListN.{length}
+use Rattle.rules.specs.Limits.{blockCells}
 use Rattle.rules.specs.Records.{Event, stitch, jump, change}
 
 -- Throughout, n counts the points of the open run; 0 means that no run is open.
@@ -59,7 +60,7 @@ unfoldable pub pointTotal : List ℤ → ℕ
 pointTotal ps = length ps / 2
 
 unfoldable pub blockTotal : List ℕ → ℕ
-blockTotal bs = length bs / 3
+blockTotal bs = length bs / blockCells
 
 unfoldable pub cuts : List ℕ → List ℕ → ℕ
 cuts rs bs = length rs - blockTotal bs

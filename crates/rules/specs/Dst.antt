@@ -1,22 +1,31 @@
 -- DST: 512 header bytes, then records of three.
 -- A port of src/formats/dst.rs and src/formats/read.rs of zigzag, changed.
-use Prim.Native.Nat.{ℕ, _+_, _*_, _/_, _%_, _^_}
-use mathlib.Core.Bool.{Bool}
+use Prim.Native.Nat.{ℕ, _+_, _-_, _*_, _/_, _%_, _^_}
+use mathlib.Core.Bool.{Bool, _&&_}
 use mathlib.Core.List.{List, [], _∷_, _++_}
 use lib.IntN.{ℤ, pos, negℤ, natAbs, _+ℤ_, _-ℤ_}
 use lib.Signed.{ltZ, nonNeg}
 use lib.Bits.{bitAnd}
-use lib.Dec.{eqb}
-use lib.ListN.{length, replicate}
+use lib.Dec.{eqb, ltb, leb}
+use lib.ListN.{length, take, drop, getD, replicate}
 use Rattle.rules.specs.Vocabulary.{pick, count, joined, right, padded}
+use Rattle.rules.specs.Limits.{dstHeader}
 use Rattle.rules.specs.Lists.{opOf, isChange, isTrim, written, lastX, lastY, minX, minY, maxX, maxY, dstName}
+use Rattle.rules.specs.Charts.{color}
+use Rattle.rules.specs.Records.{events}
+use Rattle.rules.specs.Text.{trimmed, linesOf, begins}
+use Rattle.rules.specs.Layout.{Layout, slotAt}
 use Rattle.rules.specs.declared.Cmd.{Cmd}
+use Rattle.rules.specs.declared.Color.{Color}
 use Rattle.rules.specs.declared.Op.{Op}
 use Rattle.rules.specs.declared.Op.the-variants.{Stitch, Jump, Trim, ColorChange, End}
 use Rattle.rules.specs.declared.Record.{Record}
 use Rattle.rules.specs.declared.Record.the-variants.{StitchBy, JumpBy, ChangeBy, Finish}
+use Rattle.rules.specs.declared.Refusal.the-variants.{FileTooShort}
+use Rattle.rules.specs.declared.Slot.{Slot}
+use Rattle.rules.specs.declared.Slot.the-variants.{Empty, Thread}
 
--- ---- reading
+-- ---- reading: records
 
 unfoldable pub bit : ℕ → ℕ → ℕ
 bit i n = n / 2 ^ i % 2
@@ -52,6 +61,56 @@ dstFirst [] = Finish
 dstFirst (b₀ ∷ []) = Finish
 dstFirst (b₀ ∷ b₁ ∷ []) = Finish
 dstFirst (b₀ ∷ b₁ ∷ b₂ ∷ rest) = dstRecord b₂ (dstX b₀ b₁ b₂) (dstY b₀ b₁ b₂)
+
+-- ---- reading: the header's lines
+
+-- The last line that begins `LA:` gives the label, the rest of that line.
+unfoldable pub lastLabel : List ℕ → List (List ℕ) → List ℕ
+lastLabel found [] = found
+lastLabel found (l ∷ ls) = lastLabel (pick (begins (0x4C ∷ 0x41 ∷ 0x3A ∷ []) l) (drop 3 l) found) ls
+
+unfoldable pub hexDigit : ℕ → ℕ
+hexDigit b =
+    pick (leb 0x30 b && leb b 0x39) (b - 0x30)
+    (pick (leb 0x41 b && leb b 0x46) (b - 0x37)
+    (pick (leb 0x61 b && leb b 0x66) (b - 0x57) 16))
+
+-- a hexadecimal pair, or `+` and one digit; 256 where it is neither
+unfoldable pub hexPair : ℕ → ℕ → ℕ
+hexPair a b =
+    pick (ltb (hexDigit b) 16)
+    (pick (eqb a 0x2B) (hexDigit b) (pick (ltb (hexDigit a) 16) (16 * hexDigit a + hexDigit b) 256))
+    256
+
+unfoldable pub hexColor : ℕ → ℕ → ℕ → Slot
+hexColor r g b = pick (ltb r 256 && (ltb g 256 && ltb b 256)) (Thread (color r g b)) Empty
+
+-- exactly six bytes as three pairs
+unfoldable pub sixDigits : List ℕ → Slot
+sixDigits s =
+    pick (eqb (length s) 6)
+    (hexColor (hexPair (getD s 0 0) (getD s 1 0)) (hexPair (getD s 2 0) (getD s 3 0)) (hexPair (getD s 4 0) (getD s 5 0)))
+    Empty
+
+unfoldable pub dropHashes : List ℕ → List ℕ
+dropHashes [] = []
+dropHashes (b ∷ s) = pick (eqb b 0x23) (dropHashes s) (b ∷ s)
+
+unfoldable pub beforeComma : List ℕ → List ℕ
+beforeComma [] = []
+beforeComma (b ∷ s) = pick (eqb b 0x2C) [] (b ∷ beforeComma s)
+
+unfoldable pub lineColor : List ℕ → Slot
+lineColor l = pick (begins (0x54 ∷ 0x43 ∷ 0x3A ∷ []) l) (sixDigits (dropHashes (trimmed (beforeComma (drop 3 l))))) Empty
+
+-- A line that doesn't fit gives no colour.
+unfoldable pub addColor : Slot → List Color → List Color
+addColor Empty cs = cs
+addColor (Thread c) cs = c ∷ cs
+
+unfoldable pub lineColors : List (List ℕ) → List Color
+lineColors [] = []
+lineColors (l ∷ ls) = addColor (lineColor l) (lineColors ls)
 
 -- ---- writing: the greedy rule
 
@@ -133,4 +192,19 @@ dstText name cs = joined
     ∷ [])
 
 unfoldable pub dstFile : List ℕ → List Cmd → List ℕ
-dstFile name cs = padded 512 (dstText name cs) ++ written dstCmd (pos 0) (pos 0) cs
+dstFile name cs = padded dstHeader (dstText name cs) ++ written dstCmd (pos 0) (pos 0) cs
+
+-- ---- the format
+
+abbrev pub dstLayout : Layout
+dstLayout = record {
+  extension = 0x64 ∷ 0x73 ∷ 0x74 ∷ [];
+  file = λ name cs threads. dstFile name cs;
+  bound = λ n t. dstHeader + 9 * n;
+  least = negℤ (pos 121);
+  greatest = pos 121;
+  refusals = λ s. (FileTooShort, ltb (length s) dstHeader) ∷ [];
+  events = λ s. events dstFirst (drop dstHeader s);
+  label = λ s. trimmed (lastLabel [] (linesOf (take dstHeader s)));
+  stored = λ s. slotAt (lineColors (linesOf (take dstHeader s)));
+}

@@ -1,17 +1,20 @@
 -- EXP, and JEF from its offset: pairs x, -y; 0x80 opens a control.
 -- A port of src/formats/more.rs and src/formats/read.rs of zigzag, changed.
-use Prim.Native.Nat.{ℕ}
+use Prim.Native.Nat.{ℕ, _*_}
 use mathlib.Core.Bool.{Bool, true, false}
 use mathlib.Core.List.{List, [], _∷_}
 use lib.IntN.{ℤ, pos, negℤ}
 use lib.Dec.{eqb}
 use Rattle.rules.specs.Vocabulary.{pick, signed, bitsOf}
 use Rattle.rules.specs.Lists.{written}
+use Rattle.rules.specs.Records.{events}
+use Rattle.rules.specs.Layout.{Layout}
 use Rattle.rules.specs.declared.Cmd.{Cmd}
 use Rattle.rules.specs.declared.Op.{Op}
 use Rattle.rules.specs.declared.Op.the-variants.{Stitch, Jump, Trim, ColorChange, End}
 use Rattle.rules.specs.declared.Record.{Record}
 use Rattle.rules.specs.declared.Record.the-variants.{StitchBy, JumpBy, ChangeBy, Finish}
+use Rattle.rules.specs.declared.Slot.the-variants.{Empty}
 
 -- what control 02 does: a stitch in EXP, a jump in JEF
 unfoldable pub two : Bool → ℤ → ℤ → Record
@@ -52,3 +55,18 @@ expCmd End dx dy = []
 
 unfoldable pub expFile : List Cmd → List ℕ
 expFile cs = written expCmd (pos 0) (pos 0) cs
+
+-- ---- the format
+
+abbrev pub expLayout : Layout
+expLayout = record {
+  extension = 0x65 ∷ 0x78 ∷ 0x70 ∷ [];
+  file = λ name cs threads. expFile cs;
+  bound = λ n t. 4 * n;
+  least = negℤ (pos 127);
+  greatest = pos 127;
+  refusals = λ s. [];
+  events = events (pairFirst false);
+  label = λ s. [];
+  stored = λ s k. Empty;
+}

@@ -1,22 +1,17 @@
 -- Files: what is written for a list, and what is read of a file: records, label, stored colours, refusals.
 -- A port of src/formats/read.rs of zigzag, changed.
-use Prim.Native.Nat.{ℕ, zero, suc, _+_, _-_, _*_, _%_, min}
-use mathlib.Core.Bool.{Bool, true, false, not, _&&_, _||_}
+use Prim.Native.Nat.{ℕ, _+_, _*_, _%_}
+use mathlib.Core.Bool.{Bool, true, _||_}
 use mathlib.Core.List.{List, [], _∷_, _++_}
-use lib.IntN.{ℤ, pos, natAbs}
-use lib.Signed.{ltZ, leZ}
-use lib.Dec.{eqb, ltb, leb}
-use lib.ListN.{length, take, drop, getD}
-use Rattle.rules.specs.Vocabulary.{pick, signed, fromLittle, sameBytes}
-use Rattle.rules.specs.Lists.{commands, threadsOf}
+use lib.IntN.{ℤ, pos}
+use lib.Dec.{ltb}
+use lib.ListN.{length, drop, getD}
+use Rattle.rules.specs.Limits.{longestFile}
+use Rattle.rules.specs.Lists.{commands}
 use Rattle.rules.specs.Refusals.{numberOf, verdict, listRefusals}
-use Rattle.rules.specs.Charts.{color, pecChart, jefChart}
-use Rattle.rules.specs.Records.{Event, events}
-use Rattle.rules.specs.Dst.{dstFirst, dstFile}
-use Rattle.rules.specs.Pec.{pecFirst, pecFile}
-use Rattle.rules.specs.Pes.{pesFile}
-use Rattle.rules.specs.Exp.{pairFirst, expFile}
-use Rattle.rules.specs.Jef.{jefFile}
+use Rattle.rules.specs.Charts.{color}
+use Rattle.rules.specs.Records.{Event}
+use Rattle.rules.specs.Formats.{layoutOf}
 use Rattle.rules.specs.Answers.{places, runs, blocks, pointTotal, blockTotal, cuts}
 use Rattle.rules.specs.declared.Cmd.{Cmd}
 use Rattle.rules.specs.declared.Color.{Color}
@@ -24,12 +19,10 @@ use Rattle.rules.specs.declared.Counts.{Counts}
 use Rattle.rules.specs.declared.Extension.{Extension}
 use Rattle.rules.specs.declared.Extension.the-variants.{Of, Unknown}
 use Rattle.rules.specs.declared.Format.{Format}
-use Rattle.rules.specs.declared.Format.the-variants.{Pes, Pec, Dst, Exp, Jef}
 use Rattle.rules.specs.declared.ReadAnswer.{ReadAnswer}
 use Rattle.rules.specs.declared.ReadAnswer.the-variants.{Read, Unread}
-use Rattle.rules.specs.declared.Record.{Record}
 use Rattle.rules.specs.declared.Refusal.{Refusal}
-use Rattle.rules.specs.declared.Refusal.the-variants.{UnknownExtension, FileTooLong, NotPes, FileTooShort, StartBelowZero, BufferTooShort}
+use Rattle.rules.specs.declared.Refusal.the-variants.{UnknownExtension, FileTooLong, BufferTooShort}
 use Rattle.rules.specs.declared.Slot.{Slot}
 use Rattle.rules.specs.declared.Slot.the-variants.{Empty, Thread}
 use Rattle.rules.specs.declared.Verdict.{Verdict}
@@ -40,162 +33,18 @@ use Rattle.rules.specs.declared.WriteAnswer.the-variants.{Written, Unwri
 -- ---- writing
 
 unfoldable pub fileOf : Format → List ℕ → List Cmd → List ℕ → List ℕ
-fileOf Pes name cs threads = pesFile name cs (threadsOf threads)
-fileOf Pec name cs threads = pecFile name cs (threadsOf threads)
-fileOf Dst name cs threads = dstFile name cs
-fileOf Exp name cs threads = expFile cs
-fileOf Jef name cs threads = jefFile cs (threadsOf threads)
+fileOf f name cs threads = layoutOf f .file name cs threads
 
--- ---- reading: where things stand
-
--- a signed 32-bit number, low byte first
-unfoldable pub wordAt : ℕ → List ℕ → ℤ
-wordAt i s = signed 31 (fromLittle (take 4 (drop i s)))
-
--- A PEC file starts at 8; a PES gives the start at 8.
-unfoldable pub partStart : Format → List ℕ → ℕ
-partStart Pes s = natAbs (wordAt 8 s)
-partStart Pec s = 8
-partStart Dst s = 0
-partStart Exp s = 0
-partStart Jef s = 0
-
--- the bytes of the records: DST after 512, PEC at 528 from its start, JEF from its offset; one below zero or past the end gives none
-unfoldable pub stitchBytes : Format → List ℕ → List ℕ
-stitchBytes Pes s = drop (partStart Pes s + 528) s
-stitchBytes Pec s = drop (partStart Pec s + 528) s
-stitchBytes Dst s = drop 512 s
-stitchBytes Exp s = s
-stitchBytes Jef s = pick (leZ (pos 0) (wordAt 0 s)) (drop (natAbs (wordAt 0 s)) s) []
-
-unfoldable pub firstOf : Format → List ℕ → Record
-firstOf Pes s = pecFirst s
-firstOf Pec s = pecFirst s
-firstOf Dst s = dstFirst s
-firstOf Exp s = pairFirst false s
-firstOf Jef s = pairFirst true s
+-- ---- reading: events, label, colours
 
 unfoldable pub eventsOf : Format → List ℕ → List Event
-eventsOf f s = events (firstOf f) (stitchBytes f s)
-
--- ---- reading: text
-
-unfoldable pub blank : ℕ → Bool
-blank b = (leb 0x09 b && leb b 0x0D) || eqb b 0x20
-
--- Labels and `TC:` texts lose 0x09..0x0D and 0x20 at both ends.
-unfoldable pub trimStart : List ℕ → List ℕ
-trimStart [] = []
-trimStart (b ∷ s) = pick (blank b) (trimStart s) (b ∷ s)
-
-unfoldable pub beforeEnd : ℕ → List ℕ → List ℕ
-beforeEnd b [] = pick (blank b) [] (b ∷ [])
-beforeEnd b (c ∷ s) = b ∷ c ∷ s
-
-unfoldable pub trimEnd : List ℕ → List ℕ
-trimEnd [] = []
-trimEnd (b ∷ s) = beforeEnd b (trimEnd s)
-
-unfoldable pub trimmed : List ℕ → List ℕ
-trimmed s = trimEnd (trimStart s)
-
--- Header lines are cut at 0x0D and 0x0A.
-unfoldable pub cutBefore : Bool → ℕ → List (List ℕ) → List (List ℕ)
-cutBefore true b ls = [] ∷ ls
-cutBefore false b [] = (b ∷ []) ∷ []
-cutBefore false b (l ∷ ls) = (b ∷ l) ∷ ls
-
-unfoldable pub linesOf : List ℕ → List (List ℕ)
-linesOf [] = [] ∷ []
-linesOf (b ∷ s) = cutBefore (eqb b 0x0D || eqb b 0x0A) b (linesOf s)
-
-unfoldable pub begins : List ℕ → List ℕ → Bool
-begins front s = sameBytes (take (length front) s) front
-
--- The last line that begins `LA:` gives the label, the rest of that line.
-unfoldable pub lastLabel : List ℕ → List (List ℕ) → List ℕ
-lastLabel found [] = found
-lastLabel found (l ∷ ls) = lastLabel (pick (begins (0x4C ∷ 0x41 ∷ 0x3A ∷ []) l) (drop 3 l) found) ls
+eventsOf f s = layoutOf f .events s
 
 unfoldable pub labelOf : Format → List ℕ → List ℕ
-labelOf Pes s = trimmed (take 16 (drop (partStart Pes s + 3) s))
-labelOf Pec s = trimmed (take 16 (drop (partStart Pec s + 3) s))
-labelOf Dst s = trimmed (lastLabel [] (linesOf (take 512 s)))
-labelOf Exp s = []
-labelOf Jef s = []
-
--- ---- reading: stored colours
-
-unfoldable pub hexDigit : ℕ → ℕ
-hexDigit b =
-    pick (leb 0x30 b && leb b 0x39) (b - 0x30)
-    (pick (leb 0x41 b && leb b 0x46) (b - 0x37)
-    (pick (leb 0x61 b && leb b 0x66) (b - 0x57) 16))
-
--- a hexadecimal pair, or `+` and one digit; 256 where it is neither
-unfoldable pub hexPair : ℕ → ℕ → ℕ
-hexPair a b =
-    pick (ltb (hexDigit b) 16)
-    (pick (eqb a 0x2B) (hexDigit b) (pick (ltb (hexDigit a) 16) (16 * hexDigit a + hexDigit b) 256))
-    256
-
-unfoldable pub hexColor : ℕ → ℕ → ℕ → Slot
-hexColor r g b = pick (ltb r 256 && (ltb g 256 && ltb b 256)) (Thread (color r g b)) Empty
-
--- exactly six bytes as three pairs
-unfoldable pub sixDigits : List ℕ → Slot
-sixDigits s =
-    pick (eqb (length s) 6)
-    (hexColor (hexPair (getD s 0 0) (getD s 1 0)) (hexPair (getD s 2 0) (getD s 3 0)) (hexPair (getD s 4 0) (getD s 5 0)))
-    Empty
-
-unfoldable pub dropHashes : List ℕ → List ℕ
-dropHashes [] = []
-dropHashes (b ∷ s) = pick (eqb b 0x23) (dropHashes s) (b ∷ s)
-
-unfoldable pub beforeComma : List ℕ → List ℕ
-beforeComma [] = []
-beforeComma (b ∷ s) = pick (eqb b 0x2C) [] (b ∷ beforeComma s)
-
-unfoldable pub lineColor : List ℕ → Slot
-lineColor l = pick (begins (0x54 ∷ 0x43 ∷ 0x3A ∷ []) l) (sixDigits (dropHashes (trimmed (beforeComma (drop 3 l))))) Empty
-
--- A line that doesn't fit gives no colour.
-unfoldable pub addColor : Slot → List Color → List Color
-addColor Empty cs = cs
-addColor (Thread c) cs = c ∷ cs
-
-unfoldable pub lineColors : List (List ℕ) → List Color
-lineColors [] = []
-lineColors (l ∷ ls) = addColor (lineColor l) (lineColors ls)
-
--- element k of a list, if there is one
-unfoldable pub slotAt : List Color → ℕ → Slot
-slotAt [] k = Empty
-slotAt (c ∷ cs) zero = Thread c
-slotAt (c ∷ cs) (suc k) = slotAt cs k
-
--- PEC: entry at 49 + k from the start modulo 65 (0 where the file has ended), for k up to the count byte at 48
-unfoldable pub pecColor : ℕ → List ℕ → ℕ → Slot
-pecColor start s k = pick (leb k (getD s (start + 48) 0)) (Thread (getD pecChart (getD s (start + 49 + k) 0 % 65) (color 0 0 0))) Empty
-
--- JEF: the count at 24, missing or negative being 0, at most 256
-unfoldable pub jefCount : List ℕ → ℕ
-jefCount s = pick (leb 28 (length s) && leZ (pos 0) (wordAt 24 s)) (min (natAbs (wordAt 24 s)) 256) 0
-
--- the entry at 116 + 4 k, wholly in the file: its absolute value modulo 79
-unfoldable pub jefColor : List ℕ → ℕ → Slot
-jefColor s k =
-    pick (ltb k (jefCount s) && leb (120 + 4 * k) (length s))
-    (Thread (getD jefChart (natAbs (wordAt (116 + 4 * k) s) % 79) (color 0 0 0)))
-    Empty
+labelOf f s = layoutOf f .label s
 
 unfoldable pub stored : Format → List ℕ → ℕ → Slot
-stored Pes s k = pecColor (partStart Pes s) s k
-stored Pec s k = pecColor (partStart Pec s) s k
-stored Dst s k = slotAt (lineColors (linesOf (take 512 s))) k
-stored Exp s k = Empty
-stored Jef s k = jefColor s k
+stored f s k = layoutOf f .stored s k
 
 -- DEFAULT_COLORS
 unfoldable pub defaults : List Color
@@ -227,47 +76,9 @@ blocksOf f s = blocks (colourOf f s) 0 0 0 (eventsOf f s)
 
 -- ---- reading: refusals
 
--- 3: a PES that doesn't begin `#PES`
-unfoldable pub notPes : Format → List ℕ → Bool
-notPes Pes s = not (begins (0x23 ∷ 0x50 ∷ 0x45 ∷ 0x53 ∷ []) s)
-notPes Pec s = false
-notPes Dst s = false
-notPes Exp s = false
-notPes Jef s = false
-
--- 4: PES under 12 bytes; DST under 512; JEF under 4
-unfoldable pub tooShort : Format → List ℕ → Bool
-tooShort Pes s = ltb (length s) 12
-tooShort Pec s = false
-tooShort Dst s = ltb (length s) 512
-tooShort Exp s = false
-tooShort Jef s = ltb (length s) 4
-
--- 5: PES start below zero
-unfoldable pub startBelowZero : Format → List ℕ → Bool
-startBelowZero Pes s = ltZ (wordAt 8 s) (pos 0)
-startBelowZero Pec s = false
-startBelowZero Dst s = false
-startBelowZero Exp s = false
-startBelowZero Jef s = false
-
--- 4: PEC part without its count byte
-unfoldable pub noCount : Format → List ℕ → Bool
-noCount Pes s = leb (length s) (partStart Pes s + 48)
-noCount Pec s = leb (length s) (partStart Pec s + 48)
-noCount Dst s = false
-noCount Exp s = false
-noCount Jef s = false
-
--- Reading checks 1, 2, 3, 4, 5, 11, the count byte (4) after 5.
+-- Reading checks 1, 2, those of the format, 11.
 unfoldable pub fileRefusals : Format → List ℕ → List (Refusal × Bool)
-fileRefusals f s =
-    (FileTooLong, ltb 2097152 (length s))
-    ∷ (NotPes, notPes f s)
-    ∷ (FileTooShort, tooShort f s)
-    ∷ (StartBelowZero, startBelowZero f s)
-    ∷ (FileTooShort, noCount f s)
-    ∷ []
+fileRefusals f s = (FileTooLong, ltb longestFile (length s)) ∷ layoutOf f .refusals s
 
 -- 11: a buffer shorter than the answer; n, m, k are the cells lent for places, runs and blocks
 unfoldable pub noRoom : Format → List ℕ → ℕ → ℕ → ℕ → Bool

@@ -1,21 +1,47 @@
 -- JEF: a header, two tables of threads, then records as in EXP.
 -- A port of src/formats/more.rs of zigzag, changed.
-use Prim.Native.Nat.{ℕ, _+_, _*_, _/_}
-use mathlib.Core.Bool.{_&&_}
+use Prim.Native.Nat.{ℕ, _+_, _*_, _/_, _%_, min}
+use mathlib.Core.Bool.{true, _&&_}
 use mathlib.Core.List.{List, [], _∷_, _++_, map}
-use lib.IntN.{ℤ, pos, negsuc, _-ℤ_}
+use lib.IntN.{ℤ, pos, negsuc, negℤ, natAbs, _-ℤ_}
 use lib.Signed.{leZ}
-use lib.Dec.{ltb}
-use lib.ListN.{length, replicate}
+use lib.Dec.{ltb, leb}
+use lib.ListN.{length, drop, getD, replicate}
 use Rattle.rules.specs.Vocabulary.{pick, bitsOf, little, joined}
-use Rattle.rules.specs.Lists.{opOf, written, width, height}
+use Rattle.rules.specs.Lists.{opOf, written, width, height, threadsOf}
+use Rattle.rules.specs.Charts.{color, jefChart}
 use Rattle.rules.specs.Choices.{jefEntries}
-use Rattle.rules.specs.Exp.{pairOf}
+use Rattle.rules.specs.Records.{events}
+use Rattle.rules.specs.Text.{wordAt}
+use Rattle.rules.specs.Layout.{Layout}
+use Rattle.rules.specs.Exp.{pairFirst, pairOf}
 use Rattle.rules.specs.declared.Cmd.{Cmd}
 use Rattle.rules.specs.declared.Color.{Color}
 use Rattle.rules.specs.declared.Op.{Op}
 use Rattle.rules.specs.declared.Op.the-variants.{Stitch, Jump, Trim, ColorChange, End}
 use Rattle.rules.specs.declared.Previous.the-variants.{First}
+use Rattle.rules.specs.declared.Refusal.the-variants.{FileTooShort}
+use Rattle.rules.specs.declared.Slot.{Slot}
+use Rattle.rules.specs.declared.Slot.the-variants.{Empty, Thread}
+
+-- ---- reading
+
+-- the records: from the offset; one below zero or past the end gives none
+unfoldable pub jefRecords : List ℕ → List ℕ
+jefRecords s = pick (leZ (pos 0) (wordAt 0 s)) (drop (natAbs (wordAt 0 s)) s) []
+
+-- the count at 24, missing or negative being 0, at most 256
+unfoldable pub jefCount : List ℕ → ℕ
+jefCount s = pick (leb 28 (length s) && leZ (pos 0) (wordAt 24 s)) (min (natAbs (wordAt 24 s)) 256) 0
+
+-- the entry at 116 + 4 k, wholly in the file: its absolute value modulo 79
+unfoldable pub jefColor : List ℕ → ℕ → Slot
+jefColor s k =
+    pick (ltb k (jefCount s) && leb (120 + 4 * k) (length s))
+    (Thread (getD jefChart (natAbs (wordAt (116 + 4 * k) s) % 79) (color 0 0 0)))
+    Empty
+
+-- ---- writing
 
 -- Written after 0x80: a jump is 02, a colour change 01 00 00, the end 10; a trim no bytes at all.
 unfoldable pub jefCmd : Op → ℤ → ℤ → List ℕ
@@ -96,3 +122,18 @@ jefHeader cs threads =
 
 unfoldable pub jefFile : List Cmd → List Color → List ℕ
 jefFile cs threads = jefHeader cs threads ++ written jefCmd (pos 0) (pos 0) cs
+
+-- ---- the format
+
+abbrev pub jefLayout : Layout
+jefLayout = record {
+  extension = 0x6A ∷ 0x65 ∷ 0x66 ∷ [];
+  file = λ name cs threads. jefFile cs (threadsOf threads);
+  bound = λ n t. 124 + 4 * n + 8 * t;
+  least = negℤ (pos 127);
+  greatest = pos 127;
+  refusals = λ s. (FileTooShort, ltb (length s) 4) ∷ [];
+  events = λ s. events (pairFirst true) (jefRecords s);
+  label = λ s. [];
+  stored = jefColor;
+}

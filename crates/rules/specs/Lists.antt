@@ -1,4 +1,4 @@
--- Domain: a list of commands, its places and its steps.
+-- Domain: a list of commands and its places.
 use Prim.Native.Nat.{ℕ, zero, suc}
 use mathlib.Core.Bool.{Bool, true, false, _&&_, _||_, not}
 use mathlib.Core.List.{List, [], _∷_, _++_, map}
@@ -7,12 +7,11 @@ use lib.IntN.{ℤ, pos, negℤ, natAbs, _-ℤ_}
 use lib.ListN.{take}
 use lib.Signed.{leZ}
 use Rattle.rules.specs.Vocabulary.{pick, eqZ, between, keep}
+use Rattle.rules.specs.Limits.{furthest}
 use Rattle.rules.specs.declared.Cmd.{Cmd}
 use Rattle.rules.specs.declared.Color.{Color}
 use Rattle.rules.specs.declared.Op.{Op}
 use Rattle.rules.specs.declared.Op.the-variants.{Stitch, Jump, Trim, ColorChange, End}
-use Rattle.rules.specs.declared.Format.{Format}
-use Rattle.rules.specs.declared.Format.the-variants.{Pes, Pec, Dst, Exp, Jef}
 
 -- kinds 0 to 4: stitch, jump, trim, colour change, end (a kind over 4 is refused)
 unfoldable pub opOf : ℕ → Op
@@ -37,7 +36,7 @@ endsOnce (k ∷ l ∷ kinds) = not (eqb k 4) && endsOnce (l ∷ kinds)
 
 -- a place from -16,000 to 16,000 on both axes
 unfoldable pub placed : ℤ → ℤ → Bool
-placed x y = between (negℤ (pos 16000)) (pos 16000) x && between (negℤ (pos 16000)) (pos 16000) y
+placed x y = between (negℤ (pos furthest)) (pos furthest) x && between (negℤ (pos furthest)) (pos furthest) y
 
 -- two places are one
 unfoldable pub samePlace : ℤ → ℤ → ℤ → ℤ → Bool
@@ -87,25 +86,6 @@ unfoldable pub lastY : List Cmd → ℤ
 lastY [] = pos 0
 lastY (c ∷ []) = c .y
 lastY (c ∷ d ∷ cs) = lastY (d ∷ cs)
-
--- steps: DST -121..121; EXP and JEF -127..127; PES and PEC -2,048..2,047
-unfoldable pub leastStep : Format → ℤ
-leastStep Pes = negℤ (pos 2048)
-leastStep Pec = negℤ (pos 2048)
-leastStep Dst = negℤ (pos 121)
-leastStep Exp = negℤ (pos 127)
-leastStep Jef = negℤ (pos 127)
-
-unfoldable pub greatestStep : Format → ℤ
-greatestStep Pes = pos 2047
-greatestStep Pec = pos 2047
-greatestStep Dst = pos 121
-greatestStep Exp = pos 127
-greatestStep Jef = pos 127
-
--- a step is the change of place on one axis: both are within the format's limits
-unfoldable pub stepIn : Format → ℤ → ℤ → Bool
-stepIn f dx dy = between (leastStep f) (greatestStep f) dx && between (leastStep f) (greatestStep f) dy
 
 -- the smaller and the larger of two
 unfoldable pub minZ : ℤ → ℤ → ℤ

@@ -1,14 +1,19 @@
 -- PEC: label at 3, colour count less one at 48, stitches at 528.
 -- A port of src/formats/pes.rs and src/formats/read.rs of zigzag, changed.
-use Prim.Native.Nat.{ℕ, _+_, _-_, _*_, _/_, _%_}
+use Prim.Native.Nat.{ℕ, _+_, _-_, _*_, _/_, _%_, min}
 use mathlib.Core.Bool.{Bool, true, false, not, _&&_, _||_}
 use mathlib.Core.List.{List, [], _∷_, _++_, map}
 use lib.IntN.{ℤ, pos, negℤ, _-ℤ_}
-use lib.Dec.{eqb, ltb}
-use lib.ListN.{length, drop, set, replicate}
+use lib.Dec.{eqb, ltb, leb}
+use lib.ListN.{length, take, drop, getD, set, replicate}
 use Rattle.rules.specs.Vocabulary.{pick, eqZ, between, any, signed, bitsOf, little, joined, padded}
-use Rattle.rules.specs.Lists.{opOf, width, height, pecName}
+use Rattle.rules.specs.Limits.{mostChanges}
+use Rattle.rules.specs.Lists.{opOf, width, height, threadsOf, pecName}
+use Rattle.rules.specs.Charts.{color, pecChart}
 use Rattle.rules.specs.Choices.{sameColor, nearestIndex, pecPalette}
+use Rattle.rules.specs.Records.{Event, events}
+use Rattle.rules.specs.Text.{trimmed}
+use Rattle.rules.specs.Layout.{Layout}
 use Rattle.rules.specs.Thumbnails.{icons}
 use Rattle.rules.specs.declared.Cmd.{Cmd}
 use Rattle.rules.specs.declared.Color.{Color}
@@ -18,10 +23,11 @@ use Rattle.rules.specs.declared.Op.{Op}
 use Rattle.rules.specs.declared.Op.the-variants.{Stitch, Jump, Trim, ColorChange, End}
 use Rattle.rules.specs.declared.Record.{Record}
 use Rattle.rules.specs.declared.Record.the-variants.{StitchBy, JumpBy, ChangeBy, Finish}
+use Rattle.rules.specs.declared.Refusal.the-variants.{FileTooShort}
 use Rattle.rules.specs.declared.Slot.{Slot}
 use Rattle.rules.specs.declared.Slot.the-variants.{Empty, Thread}
 
--- ---- reading
+-- ---- reading: records
 
 -- the step on one axis: whether it says jump, the step, the bytes it takes; or too few bytes
 pub data Axis : Type 0 where
@@ -65,6 +71,22 @@ unfoldable pub pecFirst : List ℕ → Record
 pecFirst s =
     pick (starts 0xFF 0x00 s) Finish
     (pick (starts 0xFE 0xB0 s) (pecChange s) (bothAxes (axisOf s) (afterAxis (axisOf s) s)))
+
+-- ---- reading: a part by its start
+
+unfoldable pub pecEvents : ℕ → List ℕ → List Event
+pecEvents start s = events pecFirst (drop (start + 528) s)
+
+unfoldable pub pecLabel : ℕ → List ℕ → List ℕ
+pecLabel start s = trimmed (take 16 (drop (start + 3) s))
+
+-- the entry at 49 + k from the start modulo 65 (0 where the file has ended), for k up to the count byte at 48
+unfoldable pub pecColor : ℕ → List ℕ → ℕ → Slot
+pecColor start s k = pick (leb k (getD s (start + 48) 0)) (Thread (getD pecChart (getD s (start + 49 + k) 0 % 65) (color 0 0 0))) Empty
+
+-- 4: a part without its count byte
+unfoldable pub noCount : ℕ → List ℕ → Bool
+noCount start s = leb (length s) (start + 48)
 
 -- ---- writing: stitches
 
@@ -182,3 +204,18 @@ pecPart name cs threads = pecHeader name threads ++ pecBlock cs
 -- "#PEC0001", then the part
 unfoldable pub pecFile : List ℕ → List Cmd → List Color → List ℕ
 pecFile name cs threads = (0x23 ∷ 0x50 ∷ 0x45 ∷ 0x43 ∷ 0x30 ∷ 0x30 ∷ 0x30 ∷ 0x31 ∷ []) ++ pecPart name cs threads
+
+-- ---- the format: a part at 8
+
+abbrev pub pecLayout : Layout
+pecLayout = record {
+  extension = 0x70 ∷ 0x65 ∷ 0x63 ∷ [];
+  file = λ name cs threads. pecFile name cs (threadsOf threads);
+  bound = λ n t. 992 + 6 * n + 228 * min n mostChanges;
+  least = negℤ (pos 2048);
+  greatest = pos 2047;
+  refusals = λ s. (FileTooShort, noCount 8 s) ∷ [];
+  events = pecEvents 8;
+  label = pecLabel 8;
+  stored = pecColor 8;
+}

@@ -1,21 +1,26 @@
 -- PES: a header, the sections of the design, the colour log, then a PEC part.
 -- A port of src/formats/pes.rs of zigzag, changed.
-use Prim.Native.Nat.{ℕ, suc, _+_, _/_}
+use Prim.Native.Nat.{ℕ, suc, _+_, _/_, _*_, min}
 use mathlib.Core.Bool.{Bool, true, false, not}
 use mathlib.Core.List.{List, [], _∷_, _++_, map}
-use lib.IntN.{ℤ, pos, negsuc, _-ℤ_}
-use lib.Dec.{eqb}
+use lib.IntN.{ℤ, pos, negsuc, negℤ, natAbs, _-ℤ_}
+use lib.Signed.{ltZ}
+use lib.Dec.{eqb, ltb}
 use lib.Ieee.{Float, binary32, round, toBits}
 use lib.ListN.{length, getD, replicate}
 use Rattle.rules.specs.Vocabulary.{pick, bitsOf, little, joined}
-use Rattle.rules.specs.Lists.{opOf, width, height, minX, maxY}
+use Rattle.rules.specs.Limits.{mostChanges}
+use Rattle.rules.specs.Lists.{opOf, width, height, minX, maxY, threadsOf}
 use Rattle.rules.specs.Charts.{color}
 use Rattle.rules.specs.Choices.{nearestIndex, pecPalette}
-use Rattle.rules.specs.Pec.{foundOr, pecPart}
+use Rattle.rules.specs.Text.{wordAt, begins}
+use Rattle.rules.specs.Layout.{Layout}
+use Rattle.rules.specs.Pec.{foundOr, pecPart, pecEvents, pecLabel, pecColor, noCount}
 use Rattle.rules.specs.declared.Cmd.{Cmd}
 use Rattle.rules.specs.declared.Color.{Color}
 use Rattle.rules.specs.declared.Op.{Op}
 use Rattle.rules.specs.declared.Op.the-variants.{Stitch, Jump, Trim, ColorChange, End}
+use Rattle.rules.specs.declared.Refusal.the-variants.{NotPes, FileTooShort, StartBelowZero}
 
 -- PES matrix fields are f32 and exact in this domain: the f32 nearest to z / 2
 unfoldable pub halves : ℤ → Float
@@ -157,3 +162,27 @@ pesFile name cs threads = joined
     ∷ pesMiddle cs threads
     ∷ pecPart name cs threads
     ∷ [])
+
+-- ---- the format
+
+-- the number at 8 says where the PEC part begins
+unfoldable pub partAt : List ℕ → ℕ
+partAt s = natAbs (wordAt 8 s)
+
+abbrev pub pesLayout : Layout
+pesLayout = record {
+  extension = 0x70 ∷ 0x65 ∷ 0x73 ∷ [];
+  file = λ name cs threads. pesFile name cs (threadsOf threads);
+  bound = λ n t. 1094 + 26 * n + 228 * min n mostChanges;
+  least = negℤ (pos 2048);
+  greatest = pos 2047;
+  refusals = λ s.
+      (NotPes, not (begins (0x23 ∷ 0x50 ∷ 0x45 ∷ 0x53 ∷ []) s))
+      ∷ (FileTooShort, ltb (length s) 12)
+      ∷ (StartBelowZero, ltZ (wordAt 8 s) (pos 0))
+      ∷ (FileTooShort, noCount (partAt s) s)
+      ∷ [];
+  events = λ s. pecEvents (partAt s) s;
+  label = λ s. pecLabel (partAt s) s;
+  stored = λ s. pecColor (partAt s) s;
+}

@@ -1,13 +1,15 @@
 -- What the public calls promise, for every input: the answer, and the content of each buffer at exit, as equations with the definitions before.
 -- The same records are the contracts of the calls, of the C exports and what the theorems speak of.
-use Prim.Native.Nat.{ℕ, _+_, _*_, _≤_, min}
+use Prim.Native.Nat.{ℕ, _+_, _≤_, min}
 use mathlib.Core.Path.{_≡_}
 use mathlib.Core.List.{List, map}
 use denote.Ref.{RefT, now}
 use denote.Triple.Both.{Both}
 use lib.IntN.{ℤ}
 use lib.ListN.{length, take, drop}
+use Rattle.rules.specs.Limits.{mostCommands, mostThreads}
 use Rattle.rules.specs.Lists.{commands}
+use Rattle.rules.specs.Formats.{layoutOf}
 use Rattle.rules.specs.Refusals.{numberOf, listVerdict}
 use Rattle.rules.specs.Files.{fileOf, fileTold, writeVerdict, writeAnswer, writeNumber, writeLength, filled}
 use Rattle.rules.specs.Files.{placesOf, runsOf, blocksOf, placesTold, runsTold, blocksTold, countsOf}
@@ -18,7 +20,6 @@ use Rattle.rules.specs.declared.Counts.{Counts}
 use Rattle.rules.specs.declared.Extension.{Extension}
 use Rattle.rules.specs.declared.Extension.the-variants.{Of, Unknown}
 use Rattle.rules.specs.declared.Format.{Format}
-use Rattle.rules.specs.declared.Format.the-variants.{Pes, Pec, Dst, Exp, Jef}
 use Rattle.rules.specs.declared.ReadAnswer.{ReadAnswer}
 use Rattle.rules.specs.declared.RoundTripAnswer.{RoundTripAnswer}
 use Rattle.rules.specs.declared.RoundTripAnswer.the-variants.{NotWritten, NotRead, ReadBack}
@@ -65,16 +66,12 @@ module _ (e : Extension) (name : List ℕ) (xs ys : List ℤ) (kinds threads out
 
 -- `write_bound`: the cells that hold the file of any list of n commands and t threads that a format accepts
 unfoldable pub boundOf : Format → ℕ → ℕ → ℕ
-boundOf Pes n t = 1094 + 26 * n + 228 * min n 254
-boundOf Pec n t = 992 + 6 * n + 228 * min n 254
-boundOf Dst n t = 512 + 9 * n
-boundOf Exp n t = 4 * n
-boundOf Jef n t = 124 + 4 * n + 8 * t
+boundOf f n t = layoutOf f .bound n t
 
 -- longer lists and more threads are refused, and count as the most that are accepted; an unknown extension has no file
 unfoldable pub boundTold : Extension → ℕ → ℕ → ℕ
 boundTold Unknown n t = 0
-boundTold (Of f) n t = boundOf f (min n 65535) (min t 255)
+boundTold (Of f) n t = boundOf f (min n mostCommands) (min t mostThreads)
 
 -- ---- reading
 

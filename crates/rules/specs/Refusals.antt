@@ -5,11 +5,12 @@ use mathlib.Core.List.{List, [], _∷_, map}
 use lib.Dec.{ltb, leb, eqb}
 use lib.IntN.{ℤ, pos, _-ℤ_}
 use lib.ListN.{length}
-use Rattle.rules.specs.Vocabulary.{pick, any, count, sameBytes}
-use Rattle.rules.specs.Lists.{opOf, commands, endsOnce, placed, samePlace, isChange, stands, anyFrom, stepIn}
+use Rattle.rules.specs.Vocabulary.{pick, between, any, count, sameBytes}
+use Rattle.rules.specs.Limits.{mostCommands, mostChanges, mostThreads}
+use Rattle.rules.specs.Lists.{opOf, commands, endsOnce, placed, samePlace, isChange, stands, anyFrom}
+use Rattle.rules.specs.Formats.{layoutOf, formats}
 use Rattle.rules.specs.declared.Cmd.{Cmd}
 use Rattle.rules.specs.declared.Format.{Format}
-use Rattle.rules.specs.declared.Format.the-variants.{Pes, Pec, Dst, Exp, Jef}
 use Rattle.rules.specs.declared.Extension.{Extension}
 use Rattle.rules.specs.declared.Extension.the-variants.{Of, Unknown}
 use Rattle.rules.specs.declared.Refusal.{Refusal}
@@ -38,20 +39,19 @@ lower b = pick (leb 0x41 b && leb b 0x5A) (b + 0x20) b
 unfoldable pub named : List ℕ → List ℕ → Bool
 named ext name = sameBytes (map lower ext) name
 
--- 1: an extension other than the five ("pes", "pec", "dst", "exp", "jef")
+-- 1: an extension that none of the formats has
+unfoldable pub namedIn : List Format → List ℕ → Extension
+namedIn [] ext = Unknown
+namedIn (f ∷ fs) ext = pick (named ext (layoutOf f .extension)) (Of f) (namedIn fs ext)
+
 unfoldable pub extensionOf : List ℕ → Extension
-extensionOf ext =
-    pick (named ext (0x70 ∷ 0x65 ∷ 0x73 ∷ [])) (Of Pes)
-    (pick (named ext (0x70 ∷ 0x65 ∷ 0x63 ∷ [])) (Of Pec)
-    (pick (named ext (0x64 ∷ 0x73 ∷ 0x74 ∷ [])) (Of Dst)
-    (pick (named ext (0x65 ∷ 0x78 ∷ 0x70 ∷ [])) (Of Exp)
-    (pick (named ext (0x6A ∷ 0x65 ∷ 0x66 ∷ [])) (Of Jef) Unknown))))
+extensionOf ext = namedIn formats ext
 
 -- 6: empty, over 65,535 commands, x, y and kind slices of unequal length, a kind over 4, or the end missing, early or repeated
 unfoldable pub badList : List ℤ → List ℤ → List ℕ → Bool
 badList xs ys kinds =
     eqb (length kinds) 0
-    || (ltb 65535 (length kinds)
+    || (ltb mostCommands (length kinds)
     || (not (eqb (length xs) (length kinds))
     || (not (eqb (length ys) (length kinds))
     || (any (ltb 4) kinds
@@ -70,8 +70,8 @@ changes c = isChange (opOf (c .kind))
 
 unfoldable pub tooMany : List Cmd → List ℕ → Bool
 tooMany cs threads =
-    ltb 254 (count changes cs)
-    || (ltb 255 (length threads / 3)
+    ltb mostChanges (count changes cs)
+    || (ltb mostThreads (length threads / 3)
     || not (eqb (length threads % 3) 0))
 
 -- 9: a trim, colour change or end that moves
@@ -80,6 +80,16 @@ moves x y c = stands (opOf (c .kind)) && not (samePlace x y (c .x) (c .y))
 
 unfoldable pub moved : List Cmd → Bool
 moved cs = anyFrom moves (pos 0) (pos 0) cs
+
+-- a step is the change of place on one axis: both are within the format's limits
+unfoldable pub leastStep : Format → ℤ
+leastStep f = layoutOf f .least
+
+unfoldable pub greatestStep : Format → ℤ
+greatestStep f = layoutOf f .greatest
+
+unfoldable pub stepIn : Format → ℤ → ℤ → Bool
+stepIn f dx dy = between (leastStep f) (greatestStep f) dx && between (leastStep f) (greatestStep f) dy
 
 -- 10: a step past the format's limit
 unfoldable pub stepsPast : Format → ℤ → ℤ → Cmd → Bool

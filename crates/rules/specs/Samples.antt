@@ -4,8 +4,8 @@ use mathlib.Core.List.{List, [], _∷_}
 use Prim.Native.Nat.{ℕ}
 use lib.IntN.{ℤ, pos, negℤ}
 use Rattle.rules.specs.Vocabulary.{signed, bitsOf, between, all, any, count, next, orElse, lastWhere}
-use Rattle.rules.specs.Lists.{opOf, commands, endsOnce, placed, samePlace, isChange, stands, anyFrom, leastStep, greatestStep, stepIn}
-use Rattle.rules.specs.Refusals.{numberOf, badList, outside, placeOutside, changes, tooMany, moves, moved, stepsPast, stepTooLong, verdict, listRefusals, listVerdict}
+use Rattle.rules.specs.Lists.{opOf, commands, endsOnce, placed, samePlace, isChange, stands, anyFrom}
+use Rattle.rules.specs.Refusals.{numberOf, badList, outside, placeOutside, changes, tooMany, moves, moved, leastStep, greatestStep, stepIn, stepsPast, stepTooLong, verdict, listRefusals, listVerdict}
 use Rattle.rules.specs.Charts.{color, pecChart}
 use Rattle.rules.specs.Choices.{halfToEven, gap, weighed, distance, noNearer, nearest, nearestIndex, choices, pecPalette}
 use Rattle.rules.specs.Dst.{digit, rest, z27, z9, z3, z1, pair, dstBytes, dstCmd}

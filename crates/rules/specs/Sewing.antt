@@ -5,6 +5,7 @@ use lib.IntN.{ℤ, pos}
 use lib.ListN.{take, drop}
 use Rattle.rules.specs.Vocabulary.{pick}
 use Rattle.rules.specs.Lists.{opOf, samePlace}
+use Rattle.rules.specs.Limits.{blockCells}
 use Rattle.rules.specs.declared.Cmd.{Cmd}
 use Rattle.rules.specs.declared.Counts.{Counts}
 use Rattle.rules.specs.declared.Op.{Op}
@@ -82,4 +83,4 @@ fileSewing ps rs (k ∷ c ∷ m ∷ bs) = runsSewing k m ps rs ++ fileSewing (dr
 
 -- the same from the lent buffers: as many cells at their front as the counts tell
 unfoldable pub toldSewing : Counts → List ℤ → List ℕ → List ℕ → List Entry
-toldSewing c ps rs bs = fileSewing (take (2 * c .points) ps) (take (c .runs) rs) (take (3 * c .blocks) bs)
+toldSewing c ps rs bs = fileSewing (take (2 * c .points) ps) (take (c .runs) rs) (take (blockCells * c .blocks) bs)

@@ -8,15 +8,17 @@ use lib.ListN.{replicate}
 use Rattle.rules.specs.Answers.{pointsAfter, startOf, places, runOf, runs, blockOf, begunAfter, blocks, pointTotal, blockTotal, cuts}
 use Rattle.rules.specs.Charts.{pecChart, jefChart, blankIcon}
 use Rattle.rules.specs.Choices.{halfToEven, gap, weighed, distance, noNearer, nearest, nearestIndex, nearestFirst, choices, pecPalette, jefPalette, sameColor, entryOf, jefNearest, jefChoice, jefEntries}
-use Rattle.rules.specs.Dst.{bit, weigh, dstX, dstY, under, dstRecord, dstFirst, digit, rest, z27, z9, z3, z1, pair, dstBytes, dstCmd, line, signedRight, recordCount, dstText, dstFile}
+use Rattle.rules.specs.Dst.{bit, weigh, dstX, dstY, under, dstRecord, dstFirst, lastLabel, hexDigit, hexPair, hexColor, sixDigits, dropHashes, beforeComma, lineColor, addColor, lineColors, digit, rest, z27, z9, z3, z1, pair, dstBytes, dstCmd, line, signedRight, recordCount, dstText, dstFile}
 use Rattle.rules.specs.Exp.{two, control, after80, pairFirst, pairOf, expCmd, expFile}
-use Rattle.rules.specs.Files.{fileOf, wordAt, partStart, stitchBytes, firstOf, eventsOf, blank, trimStart, beforeEnd, trimEnd, trimmed, cutBefore, linesOf, begins, lastLabel, labelOf, hexDigit, hexPair, hexColor, sixDigits, dropHashes, beforeComma, lineColor, addColor, lineColors, slotAt, pecColor, jefCount, jefColor, stored, defaults, colorNumber, orDefault, colourOf, placesOf, runsOf, blocksOf, notPes, tooShort, startBelowZero, noCount, fileRefusals, noRoom, fileVerdict, readVerdict}
-use Rattle.rules.specs.Jef.{jefCmd, word, pointsIn, pointCount, jefHoop, halfUp, edges, orOne, jefTable, words, jefHeader, jefFile}
-use Rattle.rules.specs.Lists.{opOf, commands, endsOnce, placed, samePlace, isChange, isTrim, stands, anyFrom, written, lastX, lastY, leastStep, greatestStep, stepIn, minZ, maxZ, leastFrom, greatestFrom, least, greatest, minX, minY, maxX, maxY, width, height, threadsOf, pecName, dstName}
-use Rattle.rules.specs.Pec.{longAxis, axisOf, afterAxis, bothAxes, starts, pecChange, pecFirst, wide, pecValue, pecStart, pecNext, pause, pecCmd, pecStitches, distinct, give, givenTo, foundOr, uniquePalette, pecColors, pecHeader, pecBlock, pecPart, pecFile}
-use Rattle.rules.specs.Pes.{halves, matrixField, threadCode, runLength, runX, runY, pesStart, opens, pesNext, pesPoint, pesOpen, pesCmd, pesSections, sectionCount, opensSection, colorLog, pesString, shorts, pesBlocks, pesMiddle, pesFile}
+use Rattle.rules.specs.Files.{fileOf, eventsOf, labelOf, stored, defaults, colorNumber, orDefault, colourOf, placesOf, runsOf, blocksOf, fileRefusals, noRoom, fileVerdict, readVerdict}
+use Rattle.rules.specs.Text.{wordAt, blank, trimStart, beforeEnd, trimEnd, trimmed, cutBefore, linesOf, begins}
+use Rattle.rules.specs.Layout.{slotAt}
+use Rattle.rules.specs.Jef.{jefRecords, jefCount, jefColor, jefCmd, word, pointsIn, pointCount, jefHoop, halfUp, edges, orOne, jefTable, words, jefHeader, jefFile}
+use Rattle.rules.specs.Lists.{opOf, commands, endsOnce, placed, samePlace, isChange, isTrim, stands, anyFrom, written, lastX, lastY, minZ, maxZ, leastFrom, greatestFrom, least, greatest, minX, minY, maxX, maxY, width, height, threadsOf, pecName, dstName}
+use Rattle.rules.specs.Pec.{longAxis, axisOf, afterAxis, bothAxes, starts, pecChange, pecFirst, pecEvents, pecLabel, pecColor, noCount, wide, pecValue, pecStart, pecNext, pause, pecCmd, pecStitches, distinct, give, givenTo, foundOr, uniquePalette, pecColors, pecHeader, pecBlock, pecPart, pecFile}
+use Rattle.rules.specs.Pes.{halves, matrixField, threadCode, runLength, runX, runY, pesStart, opens, pesNext, pesPoint, pesOpen, pesCmd, pesSections, sectionCount, opensSection, colorLog, pesString, shorts, pesBlocks, pesMiddle, pesFile, partAt}
 use Rattle.rules.specs.Records.{recordThen, events}
-use Rattle.rules.specs.Refusals.{badList, outside, placeOutside, changes, tooMany, moves, moved, stepsPast, stepTooLong, verdict}
+use Rattle.rules.specs.Refusals.{badList, outside, placeOutside, changes, tooMany, moves, moved, leastStep, greatestStep, stepIn, stepsPast, stepTooLong, verdict}
 use Rattle.rules.specs.Sewing.{Entry, entry, blockAfter, sewsCmd, sews, listSewing, sewsRun, runSewing, runsSewing, cells, fileSewing}
 use Rattle.rules.specs.Thumbnails.{atLeastOne, lesser, floorOf, within, pixel, painted, marked, drawn, atFront, colorBlocks, icons}
 use Rattle.rules.specs.Vocabulary.{between, all, any, count, keep, next, firstWhere, orElse, lastWhere, sameBytes, signed, bitsOf, little, fromLittle, joined, digitAt, right, padded, fuelled}
@@ -185,5 +187,5 @@ pub vectors : (fileOf Dst (0x42 ∷ 0x6C ∷ 0xC3 ∷ 0xBC ∷ 0x74 ∷ 0x65 ∷
     × ((fileVerdict (Of Dst) (replicate 511 0x20) ≡ Refused FileTooShort)
     × ((fileVerdict (Of Dst) (replicate 512 0x20) ≡ Accepted)
     × (blocksOf Dst (replicate 512 0x20) ≡ [])))))))))))))))))
-unfolding pointsAfter startOf places runOf runs blockOf begunAfter blocks pointTotal blockTotal cuts pecChart jefChart blankIcon halfToEven gap weighed distance noNearer nearest nearestIndex nearestFirst choices pecPalette jefPalette sameColor entryOf jefNearest jefChoice jefEntries bit weigh dstX dstY under dstRecord dstFirst digit rest z27 z9 z3 z1 pair dstBytes dstCmd line signedRight recordCount dstText dstFile two control after80 pairFirst pairOf expCmd expFile fileOf wordAt partStart stitchBytes firstOf eventsOf blank trimStart beforeEnd trimEnd trimmed cutBefore linesOf begins lastLabel labelOf hexDigit hexPair hexColor sixDigits dropHashes beforeComma lineColor addColor lineColors slotAt pecColor jefCount jefColor stored defaults colorNumber orDefault colourOf placesOf runsOf blocksOf notPes tooShort startBelowZero noCount fileRefusals noRoom fileVerdict readVerdict jefCmd word pointsIn pointCount jefHoop halfUp edges orOne jefTable words jefHeader jefFile opOf commands endsOnce placed samePlace isChange isTrim stands anyFrom written lastX lastY leastStep greatestStep stepIn minZ maxZ leastFrom greatestFrom least greatest minX minY maxX maxY width height threadsOf pecName dstName longAxis axisOf afterAxis bothAxes starts pecChange pecFirst wide pecValue pecStart pecNext pause pecCmd pecStitches distinct give givenTo foundOr uniquePalette pecColors pecHeader pecBlock pecPart pecFile halves matrixField threadCode runLength runX runY pesStart opens pesNext pesPoint pesOpen pesCmd pesSections sectionCount opensSection colorLog pesString shorts pesBlocks pesMiddle pesFile recordThen events badList outside placeOutside changes tooMany moves moved stepsPast stepTooLong verdict entry blockAfter sewsCmd sews listSewing sewsRun runSewing runsSewing cells fileSewing atLeastOne lesser floorOf within pixel painted marked drawn atFront colorBlocks icons between all any count keep next firstWhere orElse lastWhere sameBytes signed bitsOf little fromLittle joined digitAt right padded fuelled add sub mul div neg lt ofInt ofBits round toBits
+unfolding pointsAfter startOf places runOf runs blockOf begunAfter blocks pointTotal blockTotal cuts pecChart jefChart blankIcon halfToEven gap weighed distance noNearer nearest nearestIndex nearestFirst choices pecPalette jefPalette sameColor entryOf jefNearest jefChoice jefEntries bit weigh dstX dstY under dstRecord dstFirst digit rest z27 z9 z3 z1 pair dstBytes dstCmd line signedRight recordCount dstText dstFile two control after80 pairFirst pairOf expCmd expFile fileOf wordAt eventsOf blank trimStart beforeEnd trimEnd trimmed cutBefore linesOf begins lastLabel labelOf hexDigit hexPair hexColor sixDigits dropHashes beforeComma lineColor addColor lineColors slotAt pecEvents pecLabel pecColor jefRecords jefCount jefColor stored defaults colorNumber orDefault colourOf placesOf runsOf blocksOf noCount fileRefusals noRoom fileVerdict readVerdict jefCmd word pointsIn pointCount jefHoop halfUp edges orOne jefTable words jefHeader jefFile opOf commands endsOnce placed samePlace isChange isTrim stands anyFrom written lastX lastY leastStep greatestStep stepIn minZ maxZ leastFrom greatestFrom least greatest minX minY maxX maxY width height threadsOf pecName dstName longAxis axisOf afterAxis bothAxes starts pecChange pecFirst wide pecValue pecStart pecNext pause pecCmd pecStitches distinct give givenTo foundOr uniquePalette pecColors pecHeader pecBlock pecPart pecFile halves matrixField threadCode runLength runX runY pesStart opens pesNext pesPoint pesOpen pesCmd pesSections sectionCount opensSection colorLog pesString shorts pesBlocks pesMiddle pesFile recordThen events badList outside placeOutside changes tooMany moves moved stepsPast stepTooLong verdict entry blockAfter sewsCmd sews listSewing sewsRun runSewing runsSewing cells fileSewing atLeastOne lesser floorOf within pixel painted marked drawn atFront colorBlocks icons between all any count keep next firstWhere orElse lastWhere sameBytes signed bitsOf little fromLittle joined digitAt right padded fuelled add sub mul div neg lt ofInt ofBits round toBits partAt
 vectors = (refl, (refl, (refl, (refl, (refl, (refl, (refl, (refl, (refl, (refl, (refl, (refl, (refl, (refl, (refl, (refl, (refl, refl)))))))))))))))))

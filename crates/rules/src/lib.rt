@@ -116,3 +116,21 @@ pub struct Scale {
     pub tx: f64,
     pub ty: f64,
 }
+
+// Limits of the domain; specs/Limits.antt has the same for the definitions.
+pub const MOST_COMMANDS: usize = 65535;
+
+pub const MOST_CHANGES: usize = 254;
+
+pub const MOST_THREADS: usize = 255;
+
+pub const LEAST_PLACE: i32 = -16000;
+
+pub const GREATEST_PLACE: i32 = 16000;
+
+pub const LONGEST_FILE: usize = 2097152;
+
+pub const DST_HEADER: usize = 512;
+
+// The cells of a block's record: number, colour, runs.
+pub const BLOCK_CELLS: usize = 3;

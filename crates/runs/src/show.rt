@@ -4,6 +4,7 @@ use crate::buffer::put_byte;
 use crate::buffer::put_decimal;
 use crate::buffer::put_text;
 use formats::extension_of;
+use rules::BLOCK_CELLS;
 use rules::Counts;
 use rules::Extension;
 use rules::Format;
@@ -236,7 +237,7 @@ pub fn blocks(
     requires { ⌜ at ≤ 65536 ⌝ }
     ensures { λ r. ⌜ r ≤ 65536 ⌝ }
 {
-    let last = past(0, 3 * wide(n), blocks.len());
+    let last = past(0, BLOCK_CELLS * wide(n), blocks.len());
     let mut next = Next {
         at,
         cell: 0,

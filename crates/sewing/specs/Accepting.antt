@@ -10,8 +10,8 @@ use lib.IntN.{ℤ, pos, _-ℤ_}
 use lib.Dec.{eqb, ltb}
 use lib.ListN.{length}
 use Rattle.rules.specs.Vocabulary.{any}
-use Rattle.rules.specs.Lists.{opOf, commands, endsOnce, samePlace, stands, anyFrom, stepIn}
-use Rattle.rules.specs.Refusals.{badList, placeOutside, tooMany, moves, moved, stepsPast, stepTooLong, verdict, listRefusals, listVerdict}
+use Rattle.rules.specs.Lists.{opOf, commands, endsOnce, samePlace, stands, anyFrom}
+use Rattle.rules.specs.Refusals.{badList, placeOutside, tooMany, moves, moved, stepsPast, stepTooLong, verdict, listRefusals, listVerdict, stepIn}
 use Rattle.rules.specs.declared.Cmd.{Cmd}
 use Rattle.rules.specs.declared.Format.{Format}
 use Rattle.rules.specs.declared.Op.{Op}

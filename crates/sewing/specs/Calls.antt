@@ -11,6 +11,7 @@ use lib.IntN.{ℤ, pos, _+ℤ_}
 use lib.ListN.{length, take, drop, length-append}
 use lib.Seq.{take-append-seam}
 use Rattle.rules.specs.Answers.{pointsAfter, startOf, places, blockOf, begunAfter, blocks, pointTotal, blockTotal}
+use Rattle.rules.specs.Limits.{blockCells}
 use Rattle.rules.specs.Lists.{commands}
 use Rattle.rules.specs.Records.{Event, stitch, jump, change}
 use Rattle.rules.specs.Refusals.{verdict, listRefusals, listVerdict}
@@ -68,7 +69,7 @@ pub record Sewn (t : RoundTrip) : Type 0 where
   pub read : readNumber (t .r) ≡ 0
   pub same : back t ≡ sewing t
 
--- ---- counts and cells: two cells a point, three a block
+-- ---- counts and cells: two cells a point, blockCells a block
 
 -- k cells for each
 abbrev Rows : ℕ → ℕ → Type 0
@@ -89,19 +90,19 @@ places-even x y n (stitch dx dy ∷ es) =
 places-even x y n (jump dx dy ∷ es) = places-even (x +ℤ dx) (y +ℤ dy) 0 es
 places-even x y n (change dx dy ∷ es) = places-even (x +ℤ dx) (y +ℤ dy) 0 es
 
-block-three : (colour : ℕ → ℕ) (k m : ℕ) → Rows 3 (length (blockOf colour k m))
+block-rows : (colour : ℕ → ℕ) (k m : ℕ) → Rows blockCells (length (blockOf colour k m))
 unfolding blockOf
-block-three colour k zero = (0, refl)
-block-three colour k (suc m) = (1, refl)
+block-rows colour k zero = (0, refl)
+block-rows colour k (suc m) = (1, refl)
 
-blocks-three : (colour : ℕ → ℕ) (k m n : ℕ) (es : List Event) → Rows 3 (length (blocks colour k m n es))
+blocks-rows : (colour : ℕ → ℕ) (k m n : ℕ) (es : List Event) → Rows blockCells (length (blocks colour k m n es))
 unfolding blocks
-blocks-three colour k m n [] = block-three colour k m
-blocks-three colour k m n (stitch dx dy ∷ es) = blocks-three colour k (begunAfter n m) (pointsAfter n) es
-blocks-three colour k m n (jump dx dy ∷ es) = blocks-three colour k m 0 es
-blocks-three colour k m n (change dx dy ∷ es) =
-    let a = block-three colour k m in
-    let b = blocks-three colour (suc k) 0 0 es in
+blocks-rows colour k m n [] = block-rows colour k m
+blocks-rows colour k m n (stitch dx dy ∷ es) = blocks-rows colour k (begunAfter n m) (pointsAfter n) es
+blocks-rows colour k m n (jump dx dy ∷ es) = blocks-rows colour k m 0 es
+blocks-rows colour k m n (change dx dy ∷ es) =
+    let a = block-rows colour k m in
+    let b = blocks-rows colour (suc k) 0 0 es in
     (a .0 + b .0, omega (arith, length-append (blockOf colour k m) (blocks colour (suc k) 0 0 es), a .1, b .1))
 
 module _ (f : Format) (s : List ℕ) where
@@ -109,9 +110,9 @@ module _ (f : Format) (s : List ℕ) where
   unfolding pointTotal placesOf
   points-cells = omega (arith, places-even (pos 0) (pos 0) 0 (eventsOf f s) .1)
 
-  blocks-cells : 3 * blockTotal (blocksOf f s) ≡ length (blocksOf f s)
+  blocks-cells : blockCells * blockTotal (blocksOf f s) ≡ length (blocksOf f s)
   unfolding blockTotal blocksOf
-  blocks-cells = omega (arith, blocks-three (colourOf f s) 0 0 0 (eventsOf f s) .1)
+  blocks-cells = omega (arith, blocks-rows (colourOf f s) 0 0 0 (eventsOf f s) .1)
 
 -- the front of a buffer with an answer at its front
 pub front : {A : Type 0} (answer l : List A) (n : ℕ) → n ≡ length answer → take n (answer ++ drop (length answer) l) ≡ answer

@@ -11,11 +11,11 @@ use mir.Facts.{and-yes}
 use lib.ListN.{length, take, drop, length-append, length-take}
 use lib.Seq.{drop-at}
 use Rattle.rules.specs.Vocabulary.{eqZ, between, sameBytes, padded, joined}
-use Rattle.rules.specs.Lists.{opOf, written, stepIn, leastStep, greatestStep, dstName}
+use Rattle.rules.specs.Lists.{opOf, written, dstName}
 use Rattle.rules.specs.Sewing.{listSewing, entry}
-use Rattle.rules.specs.Refusals.{verdict}
+use Rattle.rules.specs.Refusals.{verdict, stepIn, leastStep, greatestStep}
 use Rattle.rules.specs.Dst.{bit, weigh, dstX, dstY, under, dstRecord, dstFirst, Digit, minus, nought, plus, digit, rest, z27, z9, z3, z1, pair, dstBytes, dstCmd, line, signedRight, dstText, dstFile}
-use Rattle.rules.specs.Files.{fileOf, stitchBytes, firstOf, eventsOf, notPes, tooShort, startBelowZero, noCount, fileRefusals, fileVerdict}
+use Rattle.rules.specs.Files.{fileOf, eventsOf, fileRefusals, fileVerdict}
 use Rattle.rules.specs.declared.Cmd.{Cmd}
 use Rattle.rules.specs.declared.Extension.the-variants.{Of}
 use Rattle.rules.specs.declared.Format.the-variants.{Dst}
@@ -233,7 +233,7 @@ length-header name cs = length-padded 512 _ (simp (length-append, length-line, l
 
 pub dst-sewing : (name : List ℕ) (cs : List Cmd) (threads : List ℕ) → Good (stepIn Dst) (pos 0) (pos 0) cs
     → eventSewing 0 (pos 0) (pos 0) (eventsOf Dst (fileOf Dst name cs threads)) ≡ listSewing cs
-unfolding fileOf dstFile eventsOf stitchBytes firstOf listSewing written
+unfolding fileOf dstFile eventsOf listSewing written
 dst-sewing name cs threads g =
     ap (λ (b : List ℕ). sewn dstFirst b 0 (pos 0) (pos 0)) (drop-at (padded 512 (dstText name cs)) _ 512 (length-header name cs) ∙ sym (append-nil _))
     ∙ round dstFirst (stepIn Dst) (λ s op dx dy. dstCmd op dx dy) (λ s op. s) [] (λ s x y cs. written dstCmd x y cs)
@@ -253,7 +253,7 @@ length-written x y [] = omega arith
 length-written x y (c ∷ cs) = simp length-append (omega (arith, length-cmd (opOf (c .kind)) (c .x -ℤ x) (c .y -ℤ y), length-written (c .x) (c .y) cs))
 
 pub dst-taken : (name : List ℕ) (cs : List Cmd) (threads : List ℕ) → length cs ≤ 65535 → fileVerdict (Of Dst) (fileOf Dst name cs threads) ≡ Accepted
-unfolding fileOf dstFile fileVerdict fileRefusals verdict notPes tooShort startBelowZero noCount
+unfolding fileOf dstFile fileVerdict fileRefusals verdict
 dst-taken name cs threads h =
     let p = length-append (padded 512 (dstText name cs)) (written dstCmd (pos 0) (pos 0) cs) in
     let q = length-header name cs in

@@ -12,13 +12,14 @@ use lib.ListN.{length, take, length-append, length-replicate}
 use lib.Seq.{drop-at}
 use lib.Signed.{leZ}
 use Rattle.rules.specs.Vocabulary.{between, signed, bitsOf, little, fromLittle, joined}
-use Rattle.rules.specs.Lists.{opOf, written, leastStep, greatestStep, stepIn, threadsOf}
+use Rattle.rules.specs.Lists.{opOf, written, threadsOf}
 use Rattle.rules.specs.Sewing.{entry, listSewing}
 use Rattle.rules.specs.Exp.{two, control, after80, pairFirst, pairOf, expCmd, expFile}
-use Rattle.rules.specs.Jef.{jefCmd, word, halfUp, edges, orOne, jefTable, words, jefHeader, jefFile}
+use Rattle.rules.specs.Jef.{jefRecords, jefCmd, word, halfUp, edges, orOne, jefTable, words, jefHeader, jefFile}
 use Rattle.rules.specs.Choices.{jefChoice, jefEntries}
-use Rattle.rules.specs.Refusals.{verdict}
-use Rattle.rules.specs.Files.{fileOf, wordAt, stitchBytes, firstOf, eventsOf, notPes, tooShort, startBelowZero, noCount, fileRefusals, fileVerdict}
+use Rattle.rules.specs.Refusals.{verdict, leastStep, greatestStep, stepIn}
+use Rattle.rules.specs.Files.{fileOf, eventsOf, fileRefusals, fileVerdict}
+use Rattle.rules.specs.Text.{wordAt}
 use Rattle.rules.specs.declared.Cmd.{Cmd}
 use Rattle.rules.specs.declared.Color.{Color}
 use Rattle.rules.specs.declared.Extension.the-variants.{Of}
@@ -158,7 +159,7 @@ written-sewing first fits cmd owed cs g =
 
 pub exp-sewing : (name : List ℕ) (cs : List Cmd) (threads : List ℕ) → Good (stepIn Exp) (pos 0) (pos 0) cs
     → eventSewing 0 (pos 0) (pos 0) (eventsOf Exp (fileOf Exp name cs threads)) ≡ listSewing cs
-unfolding eventsOf firstOf stitchBytes fileOf expFile
+unfolding eventsOf fileOf expFile
 exp-sewing name cs threads g = written-sewing (pairFirst false) (stepIn Exp) expCmd exp-owed cs g
 
 -- ---- JEF's header
@@ -203,15 +204,15 @@ offset cs threads h =
     ∙ signed-low 31 n small ∙ ap pos (sym (header-length cs threads))
 
 -- so the records are found
-jef-stitches : (cs : List Cmd) (threads : List Color) → length threads ≤ 255 → stitchBytes Jef (jefFile cs threads) ≡ written jefCmd (pos 0) (pos 0) cs
-unfolding stitchBytes jefFile
+jef-stitches : (cs : List Cmd) (threads : List Color) → length threads ≤ 255 → jefRecords (jefFile cs threads) ≡ written jefCmd (pos 0) (pos 0) cs
+unfolding jefRecords jefFile
 jef-stitches cs threads h =
     let n : ℕ = length (jefHeader cs threads) in
     rw (offset cs threads h) (pick-le 0 n _ _ (omega arith) ∙ drop-at (jefHeader cs threads) _ n refl)
 
 pub jef-sewing : (name : List ℕ) (cs : List Cmd) (threads : List ℕ) → length (threadsOf threads) ≤ 255 → Good (stepIn Jef) (pos 0) (pos 0) cs
     → eventSewing 0 (pos 0) (pos 0) (eventsOf Jef (fileOf Jef name cs threads)) ≡ listSewing cs
-unfolding eventsOf firstOf fileOf
+unfolding eventsOf fileOf
 jef-sewing name cs threads h g =
     ap (λ (b : List ℕ). sewn (pairFirst true) b 0 (pos 0) (pos 0)) (jef-stitches cs (threadsOf threads) h)
     ∙ written-sewing (pairFirst true) (stepIn Jef) jefCmd jef-owed cs g
@@ -242,13 +243,13 @@ jef-four-bytes ColorChange dx dy = omega arith
 jef-four-bytes End dx dy = omega arith
 
 pub exp-taken : (name : List ℕ) (cs : List Cmd) (threads : List ℕ) → length cs ≤ 65535 → fileVerdict (Of Exp) (fileOf Exp name cs threads) ≡ Accepted
-unfolding fileVerdict fileRefusals verdict notPes tooShort startBelowZero noCount fileOf expFile
+unfolding fileVerdict fileRefusals verdict fileOf expFile
 exp-taken name cs threads h =
     rw (le-ltb 2097152 (length (written expCmd (pos 0) (pos 0) cs)) (omega (arith, written-length expCmd exp-four-bytes (pos 0) (pos 0) cs)))
 
 pub jef-taken : (name : List ℕ) (cs : List Cmd) (threads : List ℕ) → length cs ≤ 65535 → length (threadsOf threads) ≤ 255
     → fileVerdict (Of Jef) (fileOf Jef name cs threads) ≡ Accepted
-unfolding fileVerdict fileRefusals verdict notPes tooShort startBelowZero noCount fileOf jefFile
+unfolding fileVerdict fileRefusals verdict fileOf jefFile
 jef-taken name cs threads h l =
     let header = jefHeader cs (threadsOf threads) in
     let body = written jefCmd (pos 0) (pos 0) cs in

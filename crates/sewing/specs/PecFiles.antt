@@ -10,13 +10,14 @@ use lib.Dec.{ltb}
 use lib.ListN.{length, take, drop, set, length-append}
 use lib.Seq.{drop-at}
 use Rattle.rules.specs.Vocabulary.{between, count, sameBytes, signed, fromLittle, little, joined}
-use Rattle.rules.specs.Lists.{opOf, leastStep, greatestStep, stepIn, threadsOf}
-use Rattle.rules.specs.Refusals.{changes, verdict}
+use Rattle.rules.specs.Lists.{opOf, threadsOf}
+use Rattle.rules.specs.Refusals.{changes, verdict, leastStep, greatestStep, stepIn}
 use Rattle.rules.specs.Charts.{blankIcon}
 use Rattle.rules.specs.Thumbnails.{pixel, painted, marked, drawn, icons}
-use Rattle.rules.specs.Pec.{pecFirst, pecStart, pecNext, pecCmd, pecStitches, pecPart, pecFile}
-use Rattle.rules.specs.Pes.{pesMiddle, pesFile}
-use Rattle.rules.specs.Files.{fileOf, wordAt, partStart, stitchBytes, firstOf, eventsOf, begins, notPes, tooShort, startBelowZero, noCount, fileRefusals, fileVerdict}
+use Rattle.rules.specs.Pec.{pecFirst, pecEvents, noCount, pecStart, pecNext, pecCmd, pecStitches, pecPart, pecFile}
+use Rattle.rules.specs.Pes.{pesMiddle, pesFile, partAt}
+use Rattle.rules.specs.Files.{fileOf, eventsOf, fileRefusals, fileVerdict}
+use Rattle.rules.specs.Text.{wordAt, begins}
 use Rattle.rules.specs.Sewing.{listSewing}
 use Rattle.rules.specs.declared.Cmd.{Cmd}
 use Rattle.rules.specs.declared.Color.{Color}
@@ -108,7 +109,7 @@ pec-bytes name cs threads h =
 
 pub pec-sewing : (name : List ℕ) (cs : List Cmd) (threads : List ℕ) → length (threadsOf threads) ≤ 255 → Good (stepIn Pec) (pos 0) (pos 0) cs
     → eventSewing 0 (pos 0) (pos 0) (eventsOf Pec (fileOf Pec name cs threads)) ≡ listSewing cs
-unfolding eventsOf firstOf stitchBytes partStart fileOf leastStep greatestStep
+unfolding eventsOf pecEvents fileOf leastStep greatestStep
 pec-sewing name cs threads h g =
     ap (λ (b : List ℕ). sewn pecFirst b 0 (pos 0) (pos 0)) (pec-bytes name cs (threadsOf threads) h) ∙ stitches-sew Pec refl refl cs g
 
@@ -145,7 +146,7 @@ module _ (name : List ℕ) (cs : List Cmd) (threads : List Color) (few : length 
 
 pub pes-sewing : (name : List ℕ) (cs : List Cmd) (threads : List ℕ) → length cs ≤ 65535 → length (threadsOf threads) ≤ 255 → Good (stepIn Pes) (pos 0) (pos 0) cs
     → eventSewing 0 (pos 0) (pos 0) (eventsOf Pes (fileOf Pes name cs threads)) ≡ listSewing cs
-unfolding eventsOf firstOf stitchBytes partStart fileOf leastStep greatestStep
+unfolding eventsOf pecEvents partAt fileOf leastStep greatestStep
 pes-sewing name cs threads few h g =
     let ts = threadsOf threads in
     ap (λ (z : ℤ). sewn pecFirst (drop (natAbs z + 528) (pesFile name cs ts)) 0 (pos 0) (pos 0)) (start-is name cs ts few)
@@ -167,7 +168,7 @@ module _ (name : List ℕ) (cs : List Cmd) (threads : List ℕ) (few : Few cs th
   part-long = part-length name cs ts (few .threads-few)
 
   pub pec-taken : fileVerdict (Of Pec) (fileOf Pec name cs threads) ≡ Accepted
-  unfolding fileVerdict verdict fileRefusals notPes tooShort startBelowZero noCount partStart fileOf
+  unfolding fileVerdict verdict fileRefusals noCount fileOf
   pec-taken =
       let n : length (pecFile name cs ts) ≤ 2097152 = omega (arith, pec-length name cs ts, part-long, length-stitches pecStart (pos 0) (pos 0) cs, few) in
       let m : 56 < length (pecFile name cs ts) = omega (arith, pec-length name cs ts, part-long) in
@@ -178,7 +179,7 @@ module _ (name : List ℕ) (cs : List Cmd) (threads : List ℕ) (few : Few cs th
   begins-pes = refl
 
   pub pes-taken : fileVerdict (Of Pes) (fileOf Pes name cs threads) ≡ Accepted
-  unfolding fileVerdict verdict fileRefusals notPes tooShort startBelowZero noCount partStart fileOf
+  unfolding fileVerdict verdict fileRefusals noCount partAt fileOf
   pes-taken =
       let s : List ℕ = pesFile name cs ts in
       let v : ℕ = 12 + length (pesMiddle cs ts) in

@@ -10,8 +10,8 @@ use lib.IntN.{ℤ, pos}
 use lib.Dec.{ltb}
 use lib.ListN.{length}
 use Rattle.rules.specs.Vocabulary.{count}
-use Rattle.rules.specs.Lists.{commands, stepIn}
-use Rattle.rules.specs.Refusals.{changes, tooMany, verdict, listVerdict}
+use Rattle.rules.specs.Lists.{commands}
+use Rattle.rules.specs.Refusals.{changes, tooMany, verdict, listVerdict, stepIn}
 use Rattle.rules.specs.Files.{fileOf, eventsOf, colourOf, placesOf, runsOf, blocksOf, fileRefusals, noRoom, fileVerdict, readVerdict}
 use Rattle.rules.specs.Sewing.{Entry, listSewing, fileSewing}
 use Rattle.rules.specs.declared.Cmd.{Cmd}

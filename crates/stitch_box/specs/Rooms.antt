@@ -8,8 +8,12 @@ use native.Mathlib.Omega.{arith}
 use borrow.Author.Tests.{le-ltb}
 use lib.IntN.{ℤ, pos, natAbs}
 use lib.Signed.{leZ}
-use lib.ListN.{length, length-drop}
-use Rattle.rules.specs.Files.{wordAt, partStart, stitchBytes, firstOf, eventsOf, colourOf, placesOf, runsOf, blocksOf, fileRefusals, noRoom, readVerdict, readAnswer, readNumber}
+use lib.ListN.{length, drop, length-drop}
+use Rattle.rules.specs.Text.{wordAt}
+use Rattle.rules.specs.Pec.{pecEvents}
+use Rattle.rules.specs.Pes.{partAt}
+use Rattle.rules.specs.Jef.{jefRecords}
+use Rattle.rules.specs.Files.{eventsOf, colourOf, placesOf, runsOf, blocksOf, fileRefusals, noRoom, readVerdict, readAnswer, readNumber}
 use Rattle.rules.specs.Promises.{ReadOf}
 use Rattle.rules.specs.Refusals.{numberOf, verdict}
 use Rattle.rules.specs.declared.Counts.{Counts}
@@ -26,32 +30,38 @@ use Rattle.rules.specs.declared.Verdict.the-variants.{Accepted, Refused}
 use Rattle.laws.specs.Tests.{by-test}
 use Rattle.passes.proofs.Bounds.{ample-fits}
 use Rattle.passes.specs.Told.{Fits, Ample}
+use Rattle.records.specs.Firsts.{firstOf}
 use Rattle.sewing.specs.Sizes.{Below, Small}
 
--- the records are a part of the file
-part-long : (f : Format) (s : List ℕ) → length (stitchBytes f s) ≤ length s
-unfolding stitchBytes
-part-long Pes s = omega (arith, length-drop (partStart Pes s + 528) s)
-part-long Pec s = omega (arith, length-drop (partStart Pec s + 528) s)
-part-long Dst s = omega (arith, length-drop 512 s)
-part-long Exp s = omega arith
-part-long Jef s = by-test (leZ (pos 0) (wordAt 0 s)) (λ t. rw t (omega (arith, length-drop (natAbs (wordAt 0 s)) s))) (λ t. rw t (omega arith))
+-- JEF's records are a part of the file
+jef-part : (s : List ℕ) → length (jefRecords s) ≤ length s
+unfolding jefRecords
+jef-part s = by-test (leZ (pos 0) (wordAt 0 s)) (λ t. rw t (omega (arith, length-drop (natAbs (wordAt 0 s)) s))) (λ t. rw t (omega arith))
 
 module _ (s : List ℕ) (i j k : ℕ) (room : Ample (length s) i j k) where
-  fits : (f : Format) → Fits (colourOf f s) (firstOf f) (stitchBytes f s) i j k
-  fits f = ample-fits f (colourOf f s) (stitchBytes f s) i j k (record {
-    places = omega (arith, part-long f s, room .places);
-    runs = omega (arith, part-long f s, room .runs);
-    blocks = omega (arith, part-long f s, room .blocks);
+  -- what is read of a part of the file fits
+  fits : (f : Format) (bytes : List ℕ) → length bytes ≤ length s → Fits (colourOf f s) (firstOf f) bytes i j k
+  fits f bytes h = ample-fits f (colourOf f s) bytes i j k (record {
+    places = omega (arith, h, room .places);
+    runs = omega (arith, h, room .runs);
+    blocks = omega (arith, h, room .blocks);
   })
 
   enough : (f : Format) → noRoom f s i j k ≡ false
-  unfolding noRoom placesOf runsOf blocksOf eventsOf
-  enough f = rw (le-ltb i _ (fits f .places), le-ltb j _ (fits f .runs), le-ltb k _ (fits f .blocks))
+  unfolding noRoom placesOf runsOf blocksOf eventsOf firstOf pecEvents
+  enough Pes = let p = fits Pes (drop (partAt s + 528) s) (omega (arith, length-drop (partAt s + 528) s)) in rw (le-ltb i _ (p .places), le-ltb j _ (p .runs), le-ltb k _ (p .blocks))
+  enough Pec = let p = fits Pec (drop (8 + 528) s) (omega (arith, length-drop (8 + 528) s)) in rw (le-ltb i _ (p .places), le-ltb j _ (p .runs), le-ltb k _ (p .blocks))
+  enough Dst = let p = fits Dst (drop 512 s) (omega (arith, length-drop 512 s)) in rw (le-ltb i _ (p .places), le-ltb j _ (p .runs), le-ltb k _ (p .blocks))
+  enough Exp = let p = fits Exp s (omega arith) in rw (le-ltb i _ (p .places), le-ltb j _ (p .runs), le-ltb k _ (p .blocks))
+  enough Jef = let p = fits Jef (jefRecords s) (jef-part s) in rw (le-ltb i _ (p .places), le-ltb j _ (p .runs), le-ltb k _ (p .blocks))
 
   below : (f : Format) → Below (fileRefusals f s)
   unfolding fileRefusals numberOf
-  below f = (omega arith, (omega arith, (omega arith, (omega arith, (omega arith, tt)))))
+  below Pes = (omega arith, (omega arith, (omega arith, (omega arith, (omega arith, tt)))))
+  below Pec = (omega arith, (omega arith, tt))
+  below Dst = (omega arith, (omega arith, tt))
+  below Exp = (omega arith, tt)
+  below Jef = (omega arith, (omega arith, tt))
 
   -- what is asked besides does not hold
   small-then : (cs : List (Refusal × Bool)) → Below cs → Small (verdict (cs ++ (BufferTooShort, false) ∷ []))

@@ -5,8 +5,12 @@ use more::exp::write_exp;
 use more::jef::write_jef;
 use pes::pes_from_stream;
 use pes::write_pec_file;
+use rules::DST_HEADER;
 use rules::Extension;
 use rules::Format;
+use rules::MOST_CHANGES;
+use rules::MOST_COMMANDS;
+use rules::MOST_THREADS;
 use rules::ReadAnswer;
 use rules::Refusal;
 use rules::RoundTripAnswer;
@@ -73,11 +77,11 @@ fn bound_of(f: Format, n: usize, t: usize) -> usize
     requires { ⌜ (n ≤ 65535) × (t ≤ 255) ⌝ }
     ensures { λ r. ⌜ r ≡ boundOf f n t ⌝ }
 {
-    let pictures = 228 * at_most(n, 254);
+    let pictures = 228 * at_most(n, MOST_CHANGES);
     match f {
         Format::Pes => 1094 + 26 * n + pictures,
         Format::Pec => 992 + 6 * n + pictures,
-        Format::Dst => 512 + 9 * n,
+        Format::Dst => DST_HEADER + 9 * n,
         Format::Exp => 4 * n,
         Format::Jef => 124 + 4 * n + 8 * t,
     }
@@ -92,7 +96,11 @@ pub fn write_bound(ext: &[u8], commands: usize, threads: usize) -> usize
     let Extension::Of(f) = named else {
         return 0;
     };
-    bound_of(f, at_most(commands, 65535), at_most(threads, 255))
+    bound_of(
+        f,
+        at_most(commands, MOST_COMMANDS),
+        at_most(threads, MOST_THREADS),
+    )
 }
 
 // Reads a file by its extension into three buffers: counts, and cells behind the answers stay; or why it is refused, and the buffers as

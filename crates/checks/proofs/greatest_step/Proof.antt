@@ -1,7 +1,7 @@
 -- Each format answers its own greatest step.
 use mathlib.Core.Path.{_≡_, refl}
 use lib.IntN.{pos}
-use Rattle.rules.specs.Lists.{greatestStep}
+use Rattle.rules.specs.Refusals.{greatestStep}
 use Rattle.laws.specs.Arms.{pes-pec, exp-jef}
 use Rattle.rules.specs.declared.Format.{Format}
 use borrow.Author.Needs.{needs}

@@ -1,7 +1,7 @@
 -- Each format answers its own least step.
 use mathlib.Core.Path.{_≡_, refl}
 use lib.IntN.{pos, negℤ}
-use Rattle.rules.specs.Lists.{leastStep}
+use Rattle.rules.specs.Refusals.{leastStep}
 use Rattle.laws.specs.Arms.{pes-pec, exp-jef}
 use Rattle.rules.specs.declared.Format.{Format}
 use borrow.Author.Needs.{needs}

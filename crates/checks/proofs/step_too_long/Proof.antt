@@ -10,8 +10,8 @@ use mir.Syntax.{w32}
 use mir.Val.{toZ, ofZ}
 use mir.Facts.{toZ-ofZ}
 use Rattle.rules.specs.Vocabulary.{between}
-use Rattle.rules.specs.Lists.{commands, anyFrom, stepIn}
-use Rattle.rules.specs.Refusals.{stepsPast, stepTooLong}
+use Rattle.rules.specs.Lists.{commands, anyFrom}
+use Rattle.rules.specs.Refusals.{stepsPast, stepTooLong, stepIn}
 use Rattle.rules.specs.declared.Cmd.{Cmd}
 use Rattle.laws.specs.Ints.{ints, ret, abs-is}
 use Rattle.laws.specs.Places.{Small, Within}

@@ -1,6 +1,6 @@
 -- By the length of the file.
 use Rattle.encode.proofs.Lengths.{stream-most}
-use Rattle.rules.specs.declared.Format.the-variants.{Dst}
+use Rattle.encode_cmd.specs.declared.Stream.the-variants.{Dst}
 use native.Mathlib.Omega.{arith}
 use denote.Ref.{now}
 use Rattle.rules.specs.Lists.{commands}

@@ -1,6 +1,5 @@
 -- The kinds that are counted tell how many bytes there are.
 use borrow.Author.Needs.{needs}
-use mathlib.Core.Path.{_≡_}
 use Prim.Native.Nat.{_≤_}
 use native.Mathlib.Omega.{arith}
 use denote.Ref.{now}
@@ -8,9 +7,8 @@ use lib.IntN.{pos}
 use lib.ListN.{length, take}
 use Rattle.rules.specs.Vocabulary.{count}
 use Rattle.rules.specs.Lists.{commands, written}
-use Rattle.rules.specs.declared.Format.{Format}
-use Rattle.rules.specs.declared.Format.the-variants.{Pes, Pec, Dst, Exp, Jef}
-use Rattle.laws.specs.Arms.{pes-pec}
+use Rattle.encode_cmd.specs.declared.Stream.{Stream}
+use Rattle.encode_cmd.specs.declared.Stream.the-variants.{Dst, Exp, Jef}
 use Rattle.laws.specs.Listing.{length-commands}
 use Rattle.encode_cmd.specs.Cmds.{cmdOf, kindIn}
 use Rattle.encode.proofs.Lengths.{Told, lengths}
@@ -24,7 +22,7 @@ list-len-requires c κs = search needs
 few : (c : tie.After-list-len) → (c .list-len .result ≤ length (now (c .before .before .args .kinds))) × (c .list-len .result ≤ 65535)
 few c = let a = c .before .before .args in omega (arith, length-commands (now (a .xs)) (now (a .ys)) (now (a .kinds)), c .before .before .pre)
 
-told : (c : tie.After-list-len) (f : Format)
+told : (c : tie.After-list-len) (f : Stream)
     → (let a = c .before .before .args in
     let n = c .list-len .result in
     let kinds = take n (now (a .kinds)) in
@@ -90,20 +88,13 @@ sub-result : tie.Need-sub-result
 sub-result c = omega (arith, told (c .before .before .before .before) Jef .told)
 
 returns : tie.Need-returns
-returns c =
-    let a = c .before .before .before .args in
-    let cs = commands (now (a .xs)) (now (a .ys)) (now (a .kinds)) in
-    let t = told (c .before) in
-    pes-pec (λ f. 0 ≡ length (written (cmdOf f) (pos 0) (pos 0) cs)) (omega (arith, t Pes .told)) (omega (arith, t Pec .told)) (a .f) (c .match .keys1)
+returns c = rw (c .before .enum-told .given .1) (omega (arith, told (c .before .before .before) Dst .told))
 
 returns-2 : tie.Need-returns-2
-returns-2 c = rw (c .before .enum-told .given .1) (omega (arith, told (c .before .before .before) Dst .told))
+returns-2 c = rw (c .before .before .enum-told2 .given .1) (omega (arith, told (c .before .before .before .before) Exp .told))
 
 returns-3 : tie.Need-returns-3
-returns-3 c = rw (c .before .before .enum-told2 .given .1) (omega (arith, told (c .before .before .before .before) Exp .told))
-
-returns-4 : tie.Need-returns-4
-returns-4 c = rw (c .before .before .enum-told3 .given .1) (omega (arith, told (c .before .before .before .before) Jef .told))
+returns-3 c = rw (c .before .before .enum-told3 .given .1) (omega (arith, told (c .before .before .before .before) Jef .told))
 
 pub stream-len-spec : {M : Type 1} → statement M
 stream-len-spec =
@@ -131,5 +122,4 @@ stream-len-spec =
     sub-result
     returns
     returns-2
-    returns-3
-    returns-4)
+    returns-3)

@@ -1,6 +1,6 @@
 -- `extension_of` meets its contract: one test after the other. Assumes nothing.
 use mathlib.Core.Path.{sym, _∙_}
-use Rattle.rules.specs.Refusals.{extensionOf}
+use Rattle.rules.specs.Refusals.{namedIn, extensionOf}
 use borrow.Author.Needs.{needs}
 use Rattle.formats.proofs.extension_of.Statement.{statement}
 use Rattle.formats.proofs.extension_of.Tie as tie
@@ -9,14 +9,14 @@ is-named-requires : tie.Need-is-named-requires
 is-named-requires c κs = search needs
 
 returns : tie.Need-returns
-unfolding extensionOf
+unfolding extensionOf namedIn
 returns c = rw (sym (c .before .is-named .ensures) ∙ c .if1 .taken)
 
 is-named-requires-2 : tie.Need-is-named-requires-2
 is-named-requires-2 c κs = search needs
 
 returns-2 : tie.Need-returns-2
-unfolding extensionOf
+unfolding extensionOf namedIn
 returns-2 c = rw (
   sym (c .before .before .before .is-named .ensures) ∙ c .before .before .if1 .left,
   sym (c .before .is-named2 .ensures) ∙ c .if2 .taken,
@@ -26,7 +26,7 @@ is-named-requires-3 : tie.Need-is-named-requires-3
 is-named-requires-3 c κs = search needs
 
 returns-3 : tie.Need-returns-3
-unfolding extensionOf
+unfolding extensionOf namedIn
 returns-3 c = rw (
   sym (c .before .before .before .before .before .is-named .ensures) ∙ c .before .before .before .before .if1 .left,
   sym (c .before .before .before .is-named2 .ensures) ∙ c .before .before .if2 .left,
@@ -37,7 +37,7 @@ is-named-requires-4 : tie.Need-is-named-requires-4
 is-named-requires-4 c κs = search needs
 
 returns-4 : tie.Need-returns-4
-unfolding extensionOf
+unfolding extensionOf namedIn
 returns-4 c = rw (
   sym (c .before .before .before .before .before .before .before .is-named .ensures) ∙ c .before .before .before .before .before .before .if1 .left,
   sym (c .before .before .before .before .before .is-named2 .ensures) ∙ c .before .before .before .before .if2 .left,
@@ -49,7 +49,7 @@ is-named-requires-5 : tie.Need-is-named-requires-5
 is-named-requires-5 c κs = search needs
 
 returns-5 : tie.Need-returns-5
-unfolding extensionOf
+unfolding extensionOf namedIn
 returns-5 c = rw (
   sym (c .before .before .before .before .before .before .before .before .before .is-named .ensures) ∙ c .before .before .before .before .before .before .before .before .if1 .left,
   sym (c .before .before .before .before .before .before .before .is-named2 .ensures) ∙ c .before .before .before .before .before .before .if2 .left,
@@ -59,7 +59,7 @@ returns-5 c = rw (
 )
 
 returns-6 : tie.Need-returns-6
-unfolding extensionOf
+unfolding extensionOf namedIn
 returns-6 c = rw (
   sym (c .before .before .before .before .before .before .before .before .before .is-named .ensures) ∙ c .before .before .before .before .before .before .before .before .if1 .left,
   sym (c .before .before .before .before .before .before .before .is-named2 .ensures) ∙ c .before .before .before .before .before .before .if2 .left,

@@ -1,10 +1,13 @@
 -- The label that the format has. Assumes nothing.
-use mathlib.Core.Path.{_≡_, refl}
+use Prim.Native.Nat.{ℕ}
+use mathlib.Core.Path.{_≡_, refl, subst}
 use native.Mathlib.Omega.{arith}
 use denote.Ref.{now}
 use Rattle.header.specs.Spans.{Holds}
 use Rattle.laws.specs.Arms.{pes-pec, exp-jef}
-use Rattle.rules.specs.Files.{labelOf, partStart}
+use Rattle.rules.specs.Pec.{pecLabel}
+use Rattle.rules.specs.Files.{labelOf}
+use Rattle.front.specs.Openings.{partStart}
 use Rattle.rules.specs.declared.Format.{Format}
 use Rattle.front.proofs.Labels.{nowhere}
 use borrow.Author.Needs.{needs}
@@ -21,12 +24,13 @@ dst-label-at-requires : tie.Need-dst-label-at-requires
 dst-label-at-requires c κs = search needs
 
 returns : tie.Need-returns
-unfolding labelOf
+unfolding labelOf pecLabel partStart
 returns c =
     let a = c .before .before .before .args in
     let s = now (a .file) in
+    let p : ℕ → Type 0 = λ n. Holds (c .pec-label-at .result) s (pecLabel n s) in
     pes-pec (λ (f : Format). a .start ≡ partStart f s → Holds (c .pec-label-at .result) s (labelOf f s))
-    (λ e. rw (← e) (c .pec-label-at .ensures)) (λ e. rw (← e) (c .pec-label-at .ensures))
+    (λ e. subst p e (c .pec-label-at .ensures)) (λ e. subst p e (c .pec-label-at .ensures))
     (a .f) (c .before .match .keys1) (c .before .before .before .pre)
 
 returns-2 : tie.Need-returns-2

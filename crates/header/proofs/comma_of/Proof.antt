@@ -6,7 +6,7 @@ use native.Mathlib.Omega.{arith}
 use borrow.Author.Tests.{eq-eqb, ne-eqb}
 use denote.Ref.{now}
 use lib.ListN.{length, take, drop}
-use Rattle.rules.specs.Files.{beforeComma}
+use Rattle.rules.specs.Dst.{beforeComma}
 use Rattle.header.proofs.Marks.{comma-more, comma-here, comma-end}
 use Rattle.header.proofs.comma_of.Statement.{statement}
 use Rattle.header.proofs.comma_of.Tie as tie

@@ -5,7 +5,10 @@ use mathlib.Core.Path.{ap, subst, _≡_}
 use native.Mathlib.Omega.{arith}
 use denote.Ref.{now}
 use lib.ListN.{length, take, length-take}
-use Rattle.rules.specs.Files.{linesOf, lineColors, slotAt, colorNumber}
+use Rattle.rules.specs.Files.{colorNumber}
+use Rattle.rules.specs.Text.{linesOf}
+use Rattle.rules.specs.Dst.{lineColors}
+use Rattle.rules.specs.Layout.{slotAt}
 use Rattle.header.specs.Colors.{Stored}
 use borrow.Author.Needs.{needs}
 use Rattle.header.proofs.dst_colors.Statement.{statement}

@@ -5,7 +5,8 @@ use native.Mathlib.Omega.{arith}
 use denote.Ref.{now}
 use lib.ListN.{length, length-take}
 use Prim.Native.Nat.{ℕ}
-use Rattle.rules.specs.Files.{linesOf, lastLabel, trimmed}
+use Rattle.rules.specs.Text.{linesOf, trimmed}
+use Rattle.rules.specs.Dst.{lastLabel}
 use Rattle.header.proofs.Spans.{held-in-front}
 use borrow.Author.Needs.{needs}
 use Rattle.header.proofs.dst_label_at.Statement.{statement}

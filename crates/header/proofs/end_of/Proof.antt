@@ -6,7 +6,7 @@ use native.Mathlib.Omega.{arith}
 use denote.Ref.{now}
 use lib.ListN.{length, take}
 use lib.Seq.{take-length}
-use Rattle.rules.specs.Files.{trimEnd}
+use Rattle.rules.specs.Text.{trimEnd}
 use Rattle.header.proofs.Texts.{end-more, end-here, end-none}
 use Rattle.header.proofs.end_of.Statement.{statement}
 use Rattle.header.proofs.end_of.Tie as tie

@@ -5,7 +5,7 @@ use native.Mathlib.Omega.{arith}
 use borrow.Author.Tests.{eq-eqb, ne-eqb}
 use denote.Ref.{now}
 use lib.ListN.{length, drop}
-use Rattle.rules.specs.Files.{dropHashes}
+use Rattle.rules.specs.Dst.{dropHashes}
 use Rattle.header.proofs.Marks.{hash-more, hash-here, hash-end}
 use Rattle.header.proofs.hashes_of.Statement.{statement}
 use Rattle.header.proofs.hashes_of.Tie as tie

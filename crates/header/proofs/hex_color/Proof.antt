@@ -1,6 +1,6 @@
 -- Three numbers below 256. Assumes nothing.
 use borrow.Author.Tests.{lt-ltb, le-ltb}
-use Rattle.rules.specs.Files.{hexColor}
+use Rattle.rules.specs.Dst.{hexColor}
 use borrow.Author.Needs.{needs}
 use Rattle.header.proofs.hex_color.Statement.{statement}
 use Rattle.header.proofs.hex_color.Tie as tie

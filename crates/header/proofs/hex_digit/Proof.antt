@@ -5,7 +5,7 @@ use Prim.Native.Nat.{ℕ, _≤_}
 use native.Mathlib.Omega.{arith}
 use lib.Dec.{leb}
 use borrow.Author.Tests.{leb-true}
-use Rattle.rules.specs.Files.{hexDigit}
+use Rattle.rules.specs.Dst.{hexDigit}
 use Rattle.laws.specs.Tests.{and-left, and-right}
 use borrow.Author.Needs.{needs}
 use Rattle.header.proofs.hex_digit.Statement.{statement}

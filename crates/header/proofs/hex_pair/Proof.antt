@@ -1,6 +1,6 @@
 -- A pair of digits. Assumes nothing.
 use borrow.Author.Tests.{lt-ltb, le-ltb, eq-eqb, ne-eqb}
-use Rattle.rules.specs.Files.{hexPair}
+use Rattle.rules.specs.Dst.{hexPair}
 use borrow.Author.Needs.{needs}
 use Rattle.header.proofs.hex_pair.Statement.{statement}
 use Rattle.header.proofs.hex_pair.Tie as tie

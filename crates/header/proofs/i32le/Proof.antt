@@ -4,7 +4,7 @@ use Rattle.laws.specs.Ints.{ret}
 use Prim.Native.Nat.{ℕ, _+_}
 use Rattle.header.specs.declared.Word.the-variants.{Missing, Number}
 use mathlib.Core.Path.{ap, sym, _∙_}
-use Rattle.rules.specs.Files.{wordAt}
+use Rattle.rules.specs.Text.{wordAt}
 use Rattle.rules.specs.Vocabulary.{signed}
 use Rattle.header.proofs.Words.{four}
 use Rattle.laws.specs.Tests.{pick-le, pick-gt}

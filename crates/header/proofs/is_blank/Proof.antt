@@ -1,6 +1,6 @@
 -- `is_blank` meets its contract: 0x09 to 0x0D, and 0x20. Assumes nothing.
 use native.Mathlib.Omega.{arith}
-use Rattle.rules.specs.Files.{blank}
+use Rattle.rules.specs.Text.{blank}
 use borrow.Author.Tests.{le-leb, lt-leb, ne-eqb}
 use Rattle.header.proofs.is_blank.Statement.{statement}
 use Rattle.header.proofs.is_blank.Tie as tie

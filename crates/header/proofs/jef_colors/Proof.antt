@@ -4,7 +4,7 @@ use mathlib.Core.Path.{_≡_, refl, _∙_}
 use native.Mathlib.Omega.{arith}
 use denote.Ref.{now}
 use lib.ListN.{length, getD, length-set}
-use Rattle.rules.specs.Files.{jefColor}
+use Rattle.rules.specs.Jef.{jefColor}
 use Rattle.header.specs.Colors.{Held}
 use Rattle.header.proofs.Colors.{held-more, jef-most, jef-held, jef-past, jef-cut}
 use Rattle.header.proofs.jef_colors.Statement.{statement}

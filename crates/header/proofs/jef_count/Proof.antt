@@ -9,7 +9,7 @@ use Rattle.header.proofs.Colors.{jef-below, jef-least, word-there, word
 use mir.Syntax.{w32}
 use native.Mathlib.Omega.{arith}
 use denote.Ref.{now}
-use Rattle.rules.specs.Files.{jefCount}
+use Rattle.rules.specs.Jef.{jefCount}
 use borrow.Author.Needs.{needs}
 use Rattle.header.proofs.jef_count.Statement.{statement}
 use Rattle.header.proofs.jef_count.Tie as tie

@@ -7,7 +7,8 @@ use mathlib.Core.Logic.{⊎-elim}
 use native.Mathlib.Omega.{arith}
 use denote.Ref.{now}
 use lib.ListN.{length, take, drop}
-use Rattle.rules.specs.Files.{linesOf, lastLabel}
+use Rattle.rules.specs.Text.{linesOf}
+use Rattle.rules.specs.Dst.{lastLabel}
 use Rattle.header.specs.Lines.{linesFrom}
 use Rattle.header.proofs.Lines.{lines-all, lines-none, label-here, label-before}
 use Rattle.header.proofs.last_label_at.Statement.{statement}

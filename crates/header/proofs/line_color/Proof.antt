@@ -5,7 +5,8 @@ use mathlib.Core.Path.{sym, ap, _∙_}
 use native.Mathlib.Omega.{arith}
 use denote.Ref.{now}
 use lib.ListN.{length}
-use Rattle.rules.specs.Files.{lineColor, sixDigits, dropHashes, trimmed, beforeComma}
+use Rattle.rules.specs.Dst.{lineColor, sixDigits, dropHashes, beforeComma}
+use Rattle.rules.specs.Text.{trimmed}
 use Rattle.header.proofs.Texts.{take-rest}
 use borrow.Author.Needs.{needs}
 use Rattle.header.proofs.line_color.Statement.{statement}

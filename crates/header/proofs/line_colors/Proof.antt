@@ -5,7 +5,8 @@ use mathlib.Core.Path.{_≡_, refl, sym, ap, _∙_}
 use native.Mathlib.Omega.{arith}
 use denote.Ref.{now}
 use lib.ListN.{length, take, drop, length-take}
-use Rattle.rules.specs.Files.{linesOf, lineColors, addColor}
+use Rattle.rules.specs.Text.{linesOf}
+use Rattle.rules.specs.Dst.{lineColors, addColor}
 use Rattle.rules.specs.declared.Slot.{Slot}
 use Rattle.header.specs.Lines.{linesFrom}
 use Rattle.header.proofs.Colors.{Listed, listed-start, listed-more, listed-done, color-long, colors-more, colors-none, colors-all}

@@ -4,7 +4,7 @@ use mathlib.Core.Path.{_≡_, refl, _∙_}
 use native.Mathlib.Omega.{arith}
 use denote.Ref.{now}
 use lib.ListN.{length, getD, length-set}
-use Rattle.rules.specs.Files.{pecColor}
+use Rattle.rules.specs.Pec.{pecColor}
 use Rattle.header.specs.Colors.{Held}
 use Rattle.header.proofs.Colors.{held-more, pec-held, pec-past}
 use Rattle.header.proofs.pec_colors.Statement.{statement}

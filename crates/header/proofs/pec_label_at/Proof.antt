@@ -3,7 +3,7 @@ use Prim.Native.Nat.{_+_}
 use mathlib.Core.Path.{ap, _∙_}
 use native.Mathlib.Omega.{arith}
 use denote.Ref.{now}
-use Rattle.rules.specs.Files.{trimmed}
+use Rattle.rules.specs.Text.{trimmed}
 use Rattle.header.proofs.Spans.{cut}
 use borrow.Author.Needs.{needs}
 use Rattle.header.proofs.pec_label_at.Statement.{statement}

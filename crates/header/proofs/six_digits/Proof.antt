@@ -1,6 +1,6 @@
 -- Three pairs. Assumes nothing.
 use borrow.Author.Tests.{eq-eqb, ne-eqb}
-use Rattle.rules.specs.Files.{sixDigits}
+use Rattle.rules.specs.Dst.{sixDigits}
 use borrow.Author.Needs.{needs}
 use Rattle.header.proofs.six_digits.Statement.{statement}
 use Rattle.header.proofs.six_digits.Tie as tie

@@ -5,7 +5,7 @@ use mathlib.Core.Path.{_≡_, refl, sym, _∙_}
 use native.Mathlib.Omega.{arith}
 use denote.Ref.{now}
 use lib.ListN.{length, drop}
-use Rattle.rules.specs.Files.{trimStart}
+use Rattle.rules.specs.Text.{trimStart}
 use Rattle.header.proofs.Texts.{start-more, start-here, start-end}
 use Rattle.header.proofs.start_of.Statement.{statement}
 use Rattle.header.proofs.start_of.Tie as tie

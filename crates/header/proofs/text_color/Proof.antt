@@ -5,7 +5,8 @@ use native.Mathlib.Omega.{arith}
 use denote.Ref.{now}
 use lib.ListN.{length}
 use lib.Seq.{length-take-le}
-use Rattle.rules.specs.Files.{sixDigits, dropHashes, trimmed}
+use Rattle.rules.specs.Dst.{sixDigits, dropHashes}
+use Rattle.rules.specs.Text.{trimmed}
 use Rattle.header.proofs.Texts.{take-rest}
 use borrow.Author.Needs.{needs}
 use Rattle.header.proofs.text_color.Statement.{statement}

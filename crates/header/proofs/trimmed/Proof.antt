@@ -2,7 +2,7 @@
 use mathlib.Core.Path.{ap, _∙_}
 use denote.Ref.{now}
 use lib.Seq.{take-length}
-use Rattle.rules.specs.Files.{trimmed}
+use Rattle.rules.specs.Text.{trimmed}
 use borrow.Author.Needs.{needs}
 use Rattle.header.proofs.trimmed.Statement.{statement}
 use Rattle.header.proofs.trimmed.Tie as tie

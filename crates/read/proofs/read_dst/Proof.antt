@@ -5,7 +5,11 @@ use denote.Ref.{now}
 use lib.ListN.{take, length-drop}
 use lib.Seq.{length-take-le}
 use Rattle.read.proofs.Colours.{stored-colour, answered-as}
-use Rattle.rules.specs.Files.{linesOf, lineColors, slotAt, colourOf, stored, stitchBytes}
+use Rattle.rules.specs.Files.{eventsOf, colourOf, stored, placesOf, runsOf, blocksOf}
+use Rattle.records.specs.Firsts.{firstOf}
+use Rattle.rules.specs.Text.{linesOf}
+use Rattle.rules.specs.Dst.{lineColors}
+use Rattle.rules.specs.Layout.{slotAt}
 use Rattle.rules.specs.declared.Format.the-variants.{Dst}
 use borrow.Author.Needs.{needs}
 use Rattle.read.proofs.read_dst.Statement.{statement}
@@ -39,7 +43,7 @@ same-length-3 : tie.Need-same-length-3
 same-length-3 c = search needs
 
 returns : tie.Need-returns
-unfolding colourOf stored stitchBytes
+unfolding placesOf runsOf blocksOf eventsOf firstOf colourOf stored
 returns c =
     let a = c .before .before .before .before .before .before .before .before .before .before .before .before .before .before .before .before .before .args in
     let s = now (a .file) in

@@ -1,6 +1,7 @@
 -- No colours are stored.
 use mathlib.Core.Path.{refl}
-use Rattle.rules.specs.Files.{colourOf, stored, stitchBytes}
+use Rattle.rules.specs.Files.{eventsOf, colourOf, stored, placesOf, runsOf, blocksOf}
+use Rattle.records.specs.Firsts.{firstOf}
 use Rattle.rules.specs.declared.Format.the-variants.{Exp}
 use Rattle.builder.specs.Colour.{colourIn}
 use Rattle.read.proofs.Colours.{answered-as}
@@ -27,7 +28,7 @@ same-length-3 : tie.Need-same-length-3
 same-length-3 c = search needs
 
 returns : tie.Need-returns
-unfolding colourOf stored stitchBytes colourIn
+unfolding placesOf runsOf blocksOf eventsOf firstOf colourOf stored colourIn
 returns c = answered-as Exp (λ k. refl) refl (c .before .before .before .before .before .read-records .ensures)
 
 pub read-exp-spec : {M : Type 1} → statement M

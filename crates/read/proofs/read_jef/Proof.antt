@@ -4,7 +4,9 @@ use native.Mathlib.Omega.{arith}
 use denote.Ref.{now}
 use lib.Seq.{length-take-le}
 use Rattle.read.proofs.Colours.{stored-colour, answered-as}
-use Rattle.rules.specs.Files.{jefColor, colourOf, stored}
+use Rattle.rules.specs.Files.{eventsOf, colourOf, stored, placesOf, runsOf, blocksOf}
+use Rattle.records.specs.Firsts.{firstOf}
+use Rattle.rules.specs.Jef.{jefColor}
 use Rattle.rules.specs.declared.Format.the-variants.{Jef}
 use Rattle.read.proofs.Stitches.{jef-shorter}
 use borrow.Author.Needs.{needs}
@@ -39,7 +41,7 @@ same-length-3 : tie.Need-same-length-3
 same-length-3 c = search needs
 
 returns : tie.Need-returns
-unfolding colourOf stored
+unfolding placesOf runsOf blocksOf eventsOf firstOf colourOf stored
 returns c =
     let a = c .before .before .before .before .before .before .before .before .before .before .before .before .before .before .before .before .before .args in
     let s = now (a .file) in

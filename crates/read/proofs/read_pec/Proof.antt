@@ -6,7 +6,7 @@ use lib.ListN.{length-drop}
 use lib.Seq.{length-take-le}
 use Rattle.read.proofs.Colours.{stored-colour, answered-as}
 use Prim.Native.Nat.{_+_}
-use Rattle.rules.specs.Files.{pecColor}
+use Rattle.rules.specs.Pec.{pecColor}
 use Rattle.rules.specs.declared.Format.the-variants.{Pec}
 use borrow.Author.Needs.{needs}
 use Rattle.read.proofs.read_pec.Statement.{statement}

@@ -3,7 +3,7 @@ use mathlib.Core.Path.{sym, _∙_}
 use denote.Ref.{now}
 use lib.ListN.{length}
 use Rattle.rules.specs.Files.{readAnswer, filled}
-use Rattle.read.proofs.Openings.{opened, refused-read, file-given, read-told, read-places, read-runs, read-blocks}
+use Rattle.read.proofs.Openings.{opened, refused-read, read-told, read-places, read-runs, read-blocks}
 use borrow.Author.Needs.{needs}
 use Rattle.read.proofs.read_stitch_file.Statement.{statement}
 use Rattle.read.proofs.read_stitch_file.Tie as tie
@@ -34,7 +34,7 @@ returns c =
     let a = c .before .before .before .before .before .before .before .before .before .before .before .before .before .before .before .before .args in
     let s = now (a .file) in
     let o = opened (a .f) s (sym (c .before .before .before .before .before .before .before .before .before .before .before .before .front .ensures) ∙ c .before .before .before .before .before .before .before .before .before .before .found .given .1) in
-    let g = file-given (a .f) s (c .before .before .before .before .before .read-part .ensures) in
+    let g = c .before .before .before .before .before .read-part .ensures in
     (read-told (a .f) s o g, (read-places (a .f) s o g, (read-runs (a .f) s o g, read-blocks (a .f) s o g)))
 
 returns-2 : tie.Need-returns-2

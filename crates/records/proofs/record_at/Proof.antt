@@ -2,7 +2,7 @@
 use mathlib.Core.Path.{_≡_}
 use denote.Ref.{now}
 use lib.ListN.{drop}
-use Rattle.rules.specs.Files.{firstOf}
+use Rattle.records.specs.Firsts.{firstOf}
 use Rattle.rules.specs.declared.Format.{Format}
 use Rattle.laws.specs.Arms.{pes-pec}
 use borrow.Author.Needs.{needs}

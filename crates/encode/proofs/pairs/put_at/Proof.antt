@@ -9,7 +9,7 @@ use mir.Syntax.{w32}
 use mir.Facts.{toZ-ofZ}
 use Rattle.laws.specs.Ints.{ret, fit}
 use Rattle.laws.specs.Listing.{length-commands}
-use Rattle.encode_cmd.specs.Cmds.{pairFormat}
+use Rattle.encode_cmd.specs.Cmds.{pairStream}
 use Rattle.encode.proofs.Stream.{most-at, stepped}
 use Rattle.encode.proofs.pairs.put_at.Statement.{statement}
 use Rattle.encode.proofs.pairs.put_at.Tie as tie
@@ -34,7 +34,7 @@ step-requires : tie.Need-step-requires
 step-requires c κs =
     let s = c .before .before .before .before .before in
     let a = s .args in
-    rw (ret w32 (getD (now (a .xs)) (a .i) (pos 0)) (c .step-arg .given), toZ-ofZ (s .fits .x)) (omega (arith, s .pre .0 .1 .x, most-at (pairFormat (a .jef))))
+    rw (ret w32 (getD (now (a .xs)) (a .i) (pos 0)) (c .step-arg .given), toZ-ofZ (s .fits .x)) (omega (arith, s .pre .0 .1 .x, most-at (pairStream (a .jef))))
 
 mul-step-2 : tie.Need-mul-step-2
 mul-step-2 c = omega (arith, few (c .before .before .before .before .before .before))
@@ -46,7 +46,7 @@ step-requires-2 : tie.Need-step-requires-2
 step-requires-2 c κs =
     let s = c .before .before .before .before .before .before .before in
     let a = s .args in
-    rw (ret w32 (getD (now (a .ys)) (a .i) (pos 0)) (c .step-arg2 .given), toZ-ofZ (s .fits .y)) (omega (arith, s .pre .0 .1 .y, most-at (pairFormat (a .jef))))
+    rw (ret w32 (getD (now (a .ys)) (a .i) (pos 0)) (c .step-arg2 .given), toZ-ofZ (s .fits .y)) (omega (arith, s .pre .0 .1 .y, most-at (pairStream (a .jef))))
 
 pair-cmd-requires : tie.Need-pair-cmd-requires
 pair-cmd-requires c κs =

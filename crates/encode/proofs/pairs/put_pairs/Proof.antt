@@ -11,7 +11,7 @@ use mir.Syntax.{w32}
 use mir.Val.{toZ}
 use Rattle.rules.specs.Lists.{commands}
 use Rattle.rules.specs.Exp.{pairOf}
-use Rattle.encode_cmd.specs.Cmds.{pairFormat}
+use Rattle.encode_cmd.specs.Cmds.{pairStream}
 use Rattle.encode_cmd.proofs.Bytes.{stitch-pair, pair-step}
 use Rattle.laws.specs.Ints.{ret}
 use Rattle.laws.specs.Listing.{length-commands}
@@ -23,7 +23,7 @@ abbrev Inv-loop : tie.InvT-loop
 Inv-loop jef xs ys kinds out₀ at n x₀ y₀ to₀ i₀ out x y to i =
     (n ≡ length (commands xs ys kinds))
     × ((n ≡ min (length xs) (min (length ys) (length kinds)))
-    × ((i ≤ n) × Going (pairFormat jef) xs ys kinds out₀ at out to i (toZ w32 x) (toZ w32 y)))
+    × ((i ≤ n) × Going (pairStream jef) xs ys kinds out₀ at out to i (toZ w32 x) (toZ w32 y)))
 
 abbrev μ-loop : tie.MeasureT-loop
 μ-loop jef xs ys kinds out₀ at n x₀ y₀ to₀ i₀ out x y to i = n - i
@@ -36,7 +36,7 @@ loop-holds c =
     let s = c .before .before .before in
     let a = s .args in
     let n = c .list-len .ensures in
-    let whole = going-start (pairFormat (a .jef)) (now (a .xs)) (now (a .ys)) (now (a .kinds)) (now (a .out)) (a .at) (s .pre) in
+    let whole = going-start (pairStream (a .jef)) (now (a .xs)) (now (a .ys)) (now (a .kinds)) (now (a .out)) (a .at) (s .pre) in
     (n, (n ∙ length-commands (now (a .xs)) (now (a .ys)) (now (a .kinds)), (omega arith, whole)))
 
 add-loop : tie.Need-add-loop Inv-loop μ-loop
@@ -65,10 +65,10 @@ both : (c : tie.Then1 Inv-loop μ-loop)
     let ny = getD (now (a .ys)) (loop .i) (pos 0) in
     let mx = getD (now (a .xs)) (loop .i + 1) (pos 0) in
     let my = getD (now (a .ys)) (loop .i + 1) (pos 0) in
-    Turn (pairFormat (a .jef)) (now (a .xs)) (now (a .ys)) (now (a .kinds)) (loop .i) x y (pairOf (nx -ℤ x) (ny -ℤ y) ++ pairOf (mx -ℤ nx) (my -ℤ ny)) (loop .i + 1 + 1) mx my)
+    Turn (pairStream (a .jef)) (now (a .xs)) (now (a .ys)) (now (a .kinds)) (loop .i) x y (pairOf (nx -ℤ x) (ny -ℤ y) ++ pairOf (mx -ℤ nx) (my -ℤ ny)) (loop .i + 1 + 1) mx my)
 both c =
     let head = c .before .before .before .before .before in
-    let f = pairFormat (head .before .before .before .before .args .jef) in
+    let f = pairStream (head .before .before .before .before .args .jef) in
     let zero = eqb-true _ _ (sym (c .before .are-stitches .ensures) ∙ c .if1 .taken) in
     simp stitch-pair at (two-stitches {f = f} (head .loop .inv .1 .1 .1 .steps) (omega arith) zero)
 

@@ -9,7 +9,7 @@ use mir.Syntax.{w32}
 use mir.Facts.{toZ-ofZ}
 use Rattle.laws.specs.Ints.{ret, fit}
 use Rattle.laws.specs.Listing.{length-commands}
-use Rattle.rules.specs.declared.Format.the-variants.{Dst}
+use Rattle.encode_cmd.specs.declared.Stream.the-variants.{Dst}
 use Rattle.encode.proofs.Stream.{most-at, stepped}
 use Rattle.encode.proofs.triples.put_at.Statement.{statement}
 use Rattle.encode.proofs.triples.put_at.Tie as tie

@@ -11,7 +11,7 @@ use mir.Syntax.{w32}
 use mir.Val.{toZ}
 use Rattle.rules.specs.Lists.{commands}
 use Rattle.rules.specs.Dst.{dstBytes, dstCmd}
-use Rattle.rules.specs.declared.Format.the-variants.{Dst}
+use Rattle.encode_cmd.specs.declared.Stream.the-variants.{Dst}
 use Rattle.rules.specs.declared.Op.the-variants.{Stitch}
 use Rattle.laws.specs.Ints.{ret}
 use Rattle.laws.specs.Listing.{length-commands}

@@ -2,7 +2,7 @@
 use native.Mathlib.Omega.{arith}
 use denote.Ref.{now}
 use Rattle.rules.specs.Lists.{commands, threadsOf}
-use Rattle.rules.specs.declared.Format.the-variants.{Jef}
+use Rattle.encode_cmd.specs.declared.Stream.the-variants.{Jef}
 use Rattle.encode.proofs.Lengths.{stream-most}
 use Rattle.emit.proofs.Writes.{written, unwritten}
 use Rattle.more.proofs.Files.{length-file}

@@ -6,7 +6,7 @@ use lib.ListN.{length, drop}
 use mir.Facts.{toZ-ofZ}
 use mir.Syntax.{w32}
 use mir.Val.{toZ}
-use Rattle.rules.specs.Files.{firstOf}
+use Rattle.records.specs.Firsts.{firstOf}
 use Rattle.laws.specs.Ints.{ret}
 use Rattle.records.specs.Fields.{dxOf, dyOf}
 use Rattle.builder.proofs.Places.{Step}

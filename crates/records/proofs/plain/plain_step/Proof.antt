@@ -4,7 +4,7 @@ use mathlib.Core.Path.{_≡_}
 use mathlib.Core.Bool.{true, false}
 use denote.Ref.{now}
 use lib.ListN.{drop}
-use Rattle.rules.specs.Files.{firstOf}
+use Rattle.records.specs.Firsts.{firstOf}
 use Rattle.rules.specs.declared.Format.{Format}
 use Rattle.records.specs.Fields.{dxOf, dyOf}
 use Rattle.records.specs.Plain.{pairLen, pecLen, plainLen}

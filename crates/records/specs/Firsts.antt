@@ -1,0 +1,17 @@
+-- Which record stands first in a row of records, by the format that the row is of.
+use mathlib.Core.Bool.{true, false}
+use mathlib.Core.List.{List}
+use Prim.Native.Nat.{ℕ}
+use Rattle.rules.specs.Dst.{dstFirst}
+use Rattle.rules.specs.Pec.{pecFirst}
+use Rattle.rules.specs.Exp.{pairFirst}
+use Rattle.rules.specs.declared.Format.{Format}
+use Rattle.rules.specs.declared.Format.the-variants.{Pes, Pec, Dst, Exp, Jef}
+use Rattle.rules.specs.declared.Record.{Record}
+
+unfoldable pub firstOf : Format → List ℕ → Record
+firstOf Pes s = pecFirst s
+firstOf Pec s = pecFirst s
+firstOf Dst s = dstFirst s
+firstOf Exp s = pairFirst false s
+firstOf Jef s = pairFirst true s
