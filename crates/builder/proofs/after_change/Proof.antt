@@ -6,17 +6,8 @@ use borrow.Author.Needs.{needs}
 use Rattle.builder.proofs.after_change.Statement.{statement}
 use Rattle.builder.proofs.after_change.Tie as tie
 
-add-t4 : tie.Need-add-t4
-add-t4 c = search needs
-
-one-if-requires : tie.Need-one-if-requires
-one-if-requires c κs = search needs
-
 add-t6 : tie.Need-add-t6
 add-t6 c = omega (arith, c .before .one-if .ensures, sizes (c .before .before .before .args .b .run) 0)
-
-one-if-requires-2 : tie.Need-one-if-requires-2
-one-if-requires-2 c κs = search needs
 
 add-t8 : tie.Need-add-t8
 add-t8 c = omega (arith, c .before .one-if2 .ensures, sizes (c .before .before .before .before .before .args .b .begun) 0)
@@ -28,4 +19,4 @@ returns c =
 
 pub after-change-spec : {M : Type 1} → statement M
 after-change-spec =
-    tie.close (tie.spec add-t4 one-if-requires add-t6 one-if-requires-2 add-t8 returns)
+    tie.close (tie.spec (λ c. search needs) (λ c κs. search needs) add-t6 (λ c κs. search needs) add-t8 returns)

@@ -6,9 +6,6 @@ use borrow.Author.Needs.{needs}
 use Rattle.builder.proofs.after_jump.Statement.{statement}
 use Rattle.builder.proofs.after_jump.Tie as tie
 
-one-if-requires : tie.Need-one-if-requires
-one-if-requires c κs = search needs
-
 add-t5 : tie.Need-add-t5
 add-t5 c = omega (arith, c .before .one-if .ensures, sizes (c .before .before .args .b .run) 0)
 
@@ -16,4 +13,4 @@ returns : tie.Need-returns
 returns c = let s = c .before .before in simp (toZ-ofZ (s .fits .x), toZ-ofZ (s .fits .y), c .before .one-if .ensures)
 
 pub after-jump-spec : {M : Type 1} → statement M
-after-jump-spec = tie.close (tie.spec one-if-requires add-t5 returns)
+after-jump-spec = tie.close (tie.spec (λ c κs. search needs) add-t5 returns)

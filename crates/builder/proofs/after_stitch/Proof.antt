@@ -5,9 +5,6 @@ use borrow.Author.Needs.{needs}
 use Rattle.builder.proofs.after_stitch.Statement.{statement}
 use Rattle.builder.proofs.after_stitch.Tie as tie
 
-after-stitches-requires : tie.Need-after-stitches-requires
-after-stitches-requires c κs = search needs
-
 returns : tie.Need-returns
 returns c =
     let s = c .before in
@@ -15,4 +12,4 @@ returns c =
     rw (c .after-stitches .ensures, toZ-ofZ (s .fits .x), toZ-ofZ (s .fits .y)) (sewn-next 0 (a .b) (a .x) (a .y) (a .x) (a .y))
 
 pub after-stitch-spec : {M : Type 1} → statement M
-after-stitch-spec = tie.close (tie.spec after-stitches-requires returns)
+after-stitch-spec = tie.close (tie.spec (λ c κs. search needs) returns)

@@ -7,23 +7,11 @@ use borrow.Author.Needs.{needs}
 use Rattle.builder.proofs.after_stitches.Statement.{statement}
 use Rattle.builder.proofs.after_stitches.Tie as tie
 
-returns : tie.Need-returns
-returns c = search needs
-
-opens-requires : tie.Need-opens-requires
-opens-requires c κs = search needs
-
-add-t7 : tie.Need-add-t7
-add-t7 c = search needs
-
 add-t8 : tie.Need-add-t8
 add-t8 c = omega (arith, may-open (c .before .before .before .args .b .run) .least)
 
 add-t9 : tie.Need-add-t9
 add-t9 c = omega (arith, may-open (c .before .before .before .before .args .b .run) .least)
-
-add-t10 : tie.Need-add-t10
-add-t10 c = search needs
 
 add-t11 : tie.Need-add-t11
 add-t11 c = omega (arith, may-open (c .before .before .before .before .before .args .b .run) .least)
@@ -35,4 +23,7 @@ returns-2 c =
 
 pub after-stitches-spec : {M : Type 1} → statement M
 after-stitches-spec =
-    tie.close (tie.spec returns opens-requires add-t7 add-t8 add-t9 add-t10 add-t11 returns-2)
+    tie.close
+    (tie.spec
+    (λ c. search needs) (λ c κs. search needs) (λ c. search needs) add-t8 add-t9 (λ c. search needs) add-t11
+    returns-2)

@@ -4,11 +4,8 @@ use borrow.Author.Needs.{needs}
 use Rattle.builder.proofs.finish.Statement.{statement}
 use Rattle.builder.proofs.finish.Tie as tie
 
-color-change-requires : tie.Need-color-change-requires
-color-change-requires c κs = search needs
-
 returns : tie.Need-returns
 returns c = let s = c .before .before .before in rw (c .color-change .ensures, kept (s .args .b .x) (s .pre .x), kept (s .args .b .y) (s .pre .y))
 
 pub finish-spec : {M : Type 1} → statement M
-finish-spec = tie.close (tie.spec color-change-requires returns)
+finish-spec = tie.close (tie.spec (λ c κs. search needs) returns)

@@ -32,9 +32,6 @@ returns-4 c =
     let e1 = e2 .before in
     rw (ne-eqb _ _ (e1 .if1 .left), le-ltb _ _ (e2 .if2 .left), eq-eqb _ _ (e3 .if3 .left), ne-eqb _ _ (c .if4 .taken))
 
-kind-over-requires : tie.Need-kind-over-requires
-kind-over-requires c κs = search needs
-
 returns-5 : tie.Need-returns-5
 unfolding badList
 returns-5 c =
@@ -50,9 +47,6 @@ returns-5 c =
       ← c .before .kind-over .ensures,
       c .if5 .taken,
     )
-
-ends-once-requires : tie.Need-ends-once-requires
-ends-once-requires c κs = search needs
 
 returns-6 : tie.Need-returns-6
 unfolding badList
@@ -76,11 +70,4 @@ pub bad-list-spec : {M : Type 1} → statement M
 bad-list-spec =
     tie.close
     (tie.spec
-    returns
-    returns-2
-    returns-3
-    returns-4
-    kind-over-requires
-    returns-5
-    ends-once-requires
-    returns-6)
+    returns returns-2 returns-3 returns-4 (λ c κs. search needs) returns-5 (λ c κs. search needs) returns-6)

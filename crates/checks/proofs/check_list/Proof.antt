@@ -19,15 +19,9 @@ few : (xs ys : List ℤ) (ks : List ℕ) → badList xs ys ks ≡ false → leng
 unfolding badList
 few xs ys ks e = ltb-false 65535 (length ks) (or-no-left _ _ (or-no-right (eqb (length ks) 0) _ e))
 
-bad-list-requires : tie.Need-bad-list-requires
-bad-list-requires c κs = search needs
-
 returns : tie.Need-returns
 unfolding listVerdict listRefusals verdict
 returns c = rw (← c .before .bad-list .ensures, c .if1 .taken)
-
-place-outside-requires : tie.Need-place-outside-requires
-place-outside-requires c κs = search needs
 
 returns-2 : tie.Need-returns-2
 unfolding listVerdict listRefusals verdict
@@ -59,9 +53,6 @@ returns-3 c =
       ← c .before .too-many .ensures,
       c .if3 .taken,
     )
-
-moved-requires : tie.Need-moved-requires
-moved-requires c κs = search needs
 
 returns-4 : tie.Need-returns-4
 unfolding listVerdict listRefusals verdict
@@ -129,14 +120,5 @@ pub check-list-spec : {M : Type 1} → statement M
 check-list-spec =
     tie.close
     (tie.spec
-    bad-list-requires
-    returns
-    place-outside-requires
-    returns-2
-    too-many-requires
-    returns-3
-    moved-requires
-    returns-4
-    step-too-long-requires
-    returns-5
-    returns-6)
+    (λ c κs. search needs) returns (λ c κs. search needs) returns-2 too-many-requires returns-3
+    (λ c κs. search needs) returns-4 step-too-long-requires returns-5 returns-6)

@@ -89,16 +89,5 @@ pub color-changes-spec : {M : Type 1} → statement M
 color-changes-spec =
     tie.close
     (tie.spec
-    Inv-loop
-    μ-loop
-    list-len-requires
-    loop-holds
-    shared-slice-read-is-change
-    is-change-requires
-    cast-found
-    add-found
-    add-i
-    loop-less
-    loop-again
-    cast-result
-    returns)
+    Inv-loop μ-loop list-len-requires loop-holds shared-slice-read-is-change is-change-requires cast-found add-found
+    add-i loop-less loop-again cast-result returns)

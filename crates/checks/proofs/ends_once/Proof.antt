@@ -69,14 +69,5 @@ pub ends-once-spec : {M : Type 1} → statement M
 ends-once-spec =
     tie.close
     (tie.spec
-    Inv-loop
-    μ-loop
-    returns
-    loop-holds
-    add-loop
-    shared-slice-read-early
-    add-i
-    loop-less
-    loop-again
-    shared-slice-read-result
-    returns-2)
+    Inv-loop μ-loop returns loop-holds add-loop shared-slice-read-early add-i loop-less loop-again
+    shared-slice-read-result returns-2)

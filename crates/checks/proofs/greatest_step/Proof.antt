@@ -8,9 +8,6 @@ use borrow.Author.Needs.{needs}
 use Rattle.checks.proofs.greatest_step.Statement.{statement}
 use Rattle.checks.proofs.greatest_step.Tie as tie
 
-enum-told : tie.Need-enum-told
-enum-told c = search needs
-
 returns : tie.Need-returns
 unfolding greatestStep
 returns c = pes-pec (λ (f : Format). pos 2047 ≡ greatestStep f) refl refl (c .before .args .f) (c .match .keys1)
@@ -24,4 +21,4 @@ unfolding greatestStep
 returns-3 c = exp-jef (λ (f : Format). pos 127 ≡ greatestStep f) refl refl (c .before .args .f) (c .match .keys3)
 
 pub greatest-step-spec : {M : Type 1} → statement M
-greatest-step-spec = tie.close (tie.spec enum-told returns returns-2 returns-3)
+greatest-step-spec = tie.close (tie.spec (λ c. search needs) returns returns-2 returns-3)

@@ -5,12 +5,6 @@ use borrow.Author.Needs.{needs}
 use Rattle.checks.proofs.is_placed.Statement.{statement}
 use Rattle.checks.proofs.is_placed.Tie as tie
 
-is-between-requires : tie.Need-is-between-requires
-is-between-requires c κs = search needs
-
-is-between-requires-2 : tie.Need-is-between-requires-2
-is-between-requires-2 c κs = search needs
-
 returns : tie.Need-returns
 unfolding placed
 returns c =
@@ -18,4 +12,4 @@ returns c =
     rw (c .before .is-between .ensures, c .is-between2 .ensures, toZ-ofZ (f .x), toZ-ofZ (f .y))
 
 pub is-placed-spec : {M : Type 1} → statement M
-is-placed-spec = tie.close (tie.spec is-between-requires is-between-requires-2 returns)
+is-placed-spec = tie.close (tie.spec (λ c κs. search needs) (λ c κs. search needs) returns)

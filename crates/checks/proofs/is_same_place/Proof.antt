@@ -5,12 +5,6 @@ use borrow.Author.Needs.{needs}
 use Rattle.checks.proofs.is_same_place.Statement.{statement}
 use Rattle.checks.proofs.is_same_place.Tie as tie
 
-is-same-requires : tie.Need-is-same-requires
-is-same-requires c κs = search needs
-
-is-same-requires-2 : tie.Need-is-same-requires-2
-is-same-requires-2 c κs = search needs
-
 returns : tie.Need-returns
 unfolding samePlace
 returns c =
@@ -19,4 +13,4 @@ returns c =
     (simp (toZ-ofZ (f .x0), toZ-ofZ (f .y0), toZ-ofZ (f .x), toZ-ofZ (f .y)))
 
 pub is-same-place-spec : {M : Type 1} → statement M
-is-same-place-spec = tie.close (tie.spec is-same-requires is-same-requires-2 returns)
+is-same-place-spec = tie.close (tie.spec (λ c κs. search needs) (λ c κs. search needs) returns)

@@ -4,12 +4,6 @@ use borrow.Author.Needs.{needs}
 use Rattle.checks.proofs.is_step_in.Statement.{statement}
 use Rattle.checks.proofs.is_step_in.Tie as tie
 
-is-between-requires : tie.Need-is-between-requires
-is-between-requires c κs = search needs
-
-is-between-requires-2 : tie.Need-is-between-requires-2
-is-between-requires-2 c κs = search needs
-
 returns : tie.Need-returns
 returns c =
     let f = c .before .before .fits in
@@ -17,4 +11,4 @@ returns c =
     (simp (toZ-ofZ (f .lo), toZ-ofZ (f .hi), toZ-ofZ (f .dx), toZ-ofZ (f .dy)))
 
 pub is-step-in-spec : {M : Type 1} → statement M
-is-step-in-spec = tie.close (tie.spec is-between-requires is-between-requires-2 returns)
+is-step-in-spec = tie.close (tie.spec (λ c κs. search needs) (λ c κs. search needs) returns)

@@ -8,9 +8,6 @@ use borrow.Author.Needs.{needs}
 use Rattle.checks.proofs.least_step.Statement.{statement}
 use Rattle.checks.proofs.least_step.Tie as tie
 
-enum-told : tie.Need-enum-told
-enum-told c = search needs
-
 returns : tie.Need-returns
 unfolding leastStep
 returns c = pes-pec (λ (f : Format). negℤ (pos 2048) ≡ leastStep f) refl refl (c .before .args .f) (c .match .keys1)
@@ -24,4 +21,4 @@ unfolding leastStep
 returns-3 c = exp-jef (λ (f : Format). negℤ (pos 127) ≡ leastStep f) refl refl (c .before .args .f) (c .match .keys3)
 
 pub least-step-spec : {M : Type 1} → statement M
-least-step-spec = tie.close (tie.spec enum-told returns returns-2 returns-3)
+least-step-spec = tie.close (tie.spec (λ c. search needs) returns returns-2 returns-3)

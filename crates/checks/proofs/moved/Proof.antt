@@ -73,17 +73,5 @@ pub moved-spec : {M : Type 1} → statement M
 moved-spec =
     tie.close
     (tie.spec
-    Inv-loop
-    μ-loop
-    list-len-requires
-    loop-holds
-    mul-nx
-    shared-slice-copy-out-nx
-    mul-ny
-    shared-slice-copy-out-ny
-    shared-slice-read-moves
-    moves-requires
-    add-i
-    loop-less
-    loop-again
-    returns)
+    Inv-loop μ-loop list-len-requires loop-holds mul-nx shared-slice-copy-out-nx mul-ny shared-slice-copy-out-ny
+    shared-slice-read-moves moves-requires add-i loop-less loop-again returns)

@@ -4,12 +4,6 @@ use borrow.Author.Needs.{needs}
 use Rattle.checks.proofs.moves.Statement.{statement}
 use Rattle.checks.proofs.moves.Tie as tie
 
-is-standing-requires : tie.Need-is-standing-requires
-is-standing-requires c κs = search needs
-
-is-same-place-requires : tie.Need-is-same-place-requires
-is-same-place-requires c κs = search needs
-
 returns : tie.Need-returns
 returns c =
     let f = c .before .before .fits in
@@ -17,4 +11,4 @@ returns c =
     (simp (toZ-ofZ (f .x0), toZ-ofZ (f .y0), toZ-ofZ (f .x), toZ-ofZ (f .y)))
 
 pub moves-spec : {M : Type 1} → statement M
-moves-spec = tie.close (tie.spec is-standing-requires is-same-place-requires returns)
+moves-spec = tie.close (tie.spec (λ c κs. search needs) (λ c κs. search needs) returns)

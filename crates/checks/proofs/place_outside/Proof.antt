@@ -69,16 +69,5 @@ pub place-outside-spec : {M : Type 1} → statement M
 place-outside-spec =
     tie.close
     (tie.spec
-    Inv-loop
-    μ-loop
-    list-len-requires
-    loop-holds
-    mul-is-placed
-    shared-slice-copy-out-is-placed
-    mul-is-placed-2
-    shared-slice-copy-out-is-placed-2
-    is-placed-requires
-    add-i
-    loop-less
-    loop-again
-    returns)
+    Inv-loop μ-loop list-len-requires loop-holds mul-is-placed shared-slice-copy-out-is-placed mul-is-placed-2
+    shared-slice-copy-out-is-placed-2 is-placed-requires add-i loop-less loop-again returns)

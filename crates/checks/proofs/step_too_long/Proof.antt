@@ -126,20 +126,6 @@ pub step-too-long-spec : {M : Type 1} → statement M
 step-too-long-spec =
     tie.close
     (tie.spec
-    Inv-loop
-    μ-loop
-    list-len-requires
-    least-step-requires
-    greatest-step-requires
-    loop-holds
-    mul-nx
-    shared-slice-copy-out-nx
-    mul-ny
-    shared-slice-copy-out-ny
-    sub-is-step-in
-    sub-is-step-in-2
-    is-step-in-requires
-    add-i
-    loop-less
-    loop-again
-    returns)
+    Inv-loop μ-loop list-len-requires least-step-requires greatest-step-requires loop-holds mul-nx
+    shared-slice-copy-out-nx mul-ny shared-slice-copy-out-ny sub-is-step-in sub-is-step-in-2 is-step-in-requires
+    add-i loop-less loop-again returns)

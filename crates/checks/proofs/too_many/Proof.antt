@@ -9,9 +9,6 @@ use borrow.Author.Needs.{needs}
 use Rattle.checks.proofs.too_many.Statement.{statement}
 use Rattle.checks.proofs.too_many.Tie as tie
 
-color-changes-requires : tie.Need-color-changes-requires
-color-changes-requires c κs = search needs
-
 returns : tie.Need-returns
 unfolding tooMany
 returns c =
@@ -35,4 +32,4 @@ returns-3 c =
     rw (← call .color-changes .ensures, le-ltb 254 n (omega arith), le-ltb 255 m (omega arith))
 
 pub too-many-spec : {M : Type 1} → statement M
-too-many-spec = tie.close (tie.spec color-changes-requires returns returns-2 returns-3)
+too-many-spec = tie.close (tie.spec (λ c κs. search needs) returns returns-2 returns-3)

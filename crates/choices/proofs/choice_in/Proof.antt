@@ -41,18 +41,6 @@ module _ (t : Color) {last : Previous} {i n : ℕ} {u : Color} (e : last ≡ Ent
   unfolding jefChoice
   unlike p h s g = rw (e, ← f, s, eq-eqb n i h) (but t p i g)
 
-nearest-first-requires : tie.Need-nearest-first-requires
-nearest-first-requires c κs = search needs
-
-entry-of-requires : tie.Need-entry-of-requires
-entry-of-requires c κs = search needs
-
-enum-known-last : tie.Need-enum-known-last
-enum-known-last c = search needs
-
-enum-told : tie.Need-enum-told
-enum-told c = search needs
-
 returns : tie.Need-returns
 unfolding jefChoice
 returns c = rw (c .enum-told .given .1) (plain (c .before .before .before .before .args .t) (c .before .before .before .before .pre) (c .before .before .before .nearest-first .ensures) (c .before .before .entry-of .ensures))
@@ -62,16 +50,10 @@ returns-2 c =
     let t = c .before .before .before .before .before .before .args .t in
     another t (c .before .before .last .given .1) (plain t (c .before .before .before .before .before .before .pre) (c .before .before .before .before .before .nearest-first .ensures) (c .before .before .before .before .entry-of .ensures)) (c .if1 .taken)
 
-same-color-requires : tie.Need-same-color-requires
-same-color-requires c κs = search needs
-
 returns-3 : tie.Need-returns-3
 returns-3 c =
     let t = c .before .before .before .before .before .before .before .before .args .t in
     alike t (c .before .before .before .before .last .given .1) (plain t (c .before .before .before .before .before .before .before .before .pre) (c .before .before .before .before .before .before .before .nearest-first .ensures) (c .before .before .before .before .before .before .entry-of .ensures)) (sym (c .before .same-color .ensures) ∙ c .if2 .taken)
-
-nearest-but-requires : tie.Need-nearest-but-requires
-nearest-but-requires c κs = search needs
 
 returns-4 : tie.Need-returns-4
 returns-4 c =
@@ -82,13 +64,5 @@ pub choice-in-spec : {M : Type 1} → statement M
 choice-in-spec =
     tie.close
     (tie.spec
-    nearest-first-requires
-    entry-of-requires
-    enum-known-last
-    enum-told
-    returns
-    returns-2
-    same-color-requires
-    returns-3
-    nearest-but-requires
-    returns-4)
+    (λ c κs. search needs) (λ c κs. search needs) (λ c. search needs) (λ c. search needs) returns returns-2
+    (λ c κs. search needs) returns-3 (λ c κs. search needs) returns-4)

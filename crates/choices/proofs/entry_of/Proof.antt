@@ -4,12 +4,6 @@ use borrow.Author.Needs.{needs}
 use Rattle.choices.proofs.entry_of.Statement.{statement}
 use Rattle.choices.proofs.entry_of.Tie as tie
 
-enum-known-f : tie.Need-enum-known-f
-enum-known-f c = search needs
-
-enum-told : tie.Need-enum-told
-enum-told c = search needs
-
 returns : tie.Need-returns
 unfolding entryOf
 returns c = rw (c .before .f .given .1)
@@ -19,4 +13,4 @@ unfolding entryOf
 returns-2 c = rw (c .enum-told .given .1)
 
 pub entry-of-spec : {M : Type 1} → statement M
-entry-of-spec = tie.close (tie.spec enum-known-f enum-told returns returns-2)
+entry-of-spec = tie.close (tie.spec (λ c. search needs) (λ c. search needs) returns returns-2)

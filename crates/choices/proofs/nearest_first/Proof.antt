@@ -20,15 +20,6 @@ abbrev μ-loop : tie.MeasureT-loop
 loop-holds : tie.Need-loop-holds Inv-loop μ-loop
 loop-holds c = (omega arith, lead-none (c .args .color) (c .args .t2))
 
-mul-slot-distance : tie.Need-mul-slot-distance Inv-loop μ-loop
-mul-slot-distance c = search needs
-
-array-copy-out-slot-distance : tie.Need-array-copy-out-slot-distance Inv-loop μ-loop
-array-copy-out-slot-distance c = search needs
-
-slot-distance-requires : tie.Need-slot-distance-requires Inv-loop μ-loop
-slot-distance-requires c κs = search needs
-
 add-i : tie.Need-add-i Inv-loop μ-loop
 add-i c = omega arith
 
@@ -68,14 +59,5 @@ pub nearest-first-spec : {M : Type 1} → statement M
 nearest-first-spec =
     tie.close
     (tie.spec
-    Inv-loop
-    μ-loop
-    loop-holds
-    mul-slot-distance
-    array-copy-out-slot-distance
-    slot-distance-requires
-    add-i
-    loop-less
-    loop-again
-    returns
-    returns-2)
+    Inv-loop μ-loop loop-holds (λ c. search needs) (λ c. search needs) (λ c κs. search needs) add-i loop-less
+    loop-again returns returns-2)

@@ -5,18 +5,9 @@ use Rattle.choices.specs.Distances.{slotDistance}
 use Rattle.choices.proofs.slot_distance.Statement.{statement}
 use Rattle.choices.proofs.slot_distance.Tie as tie
 
-enum-known-s : tie.Need-enum-known-s
-enum-known-s c = search needs
-
-enum-told : tie.Need-enum-told
-enum-told c = search needs
-
 returns : tie.Need-returns
 unfolding slotDistance
 returns c = rw (c .enum-told .given .1)
-
-color-distance-requires : tie.Need-color-distance-requires
-color-distance-requires c κs = search needs
 
 returns-2 : tie.Need-returns-2
 unfolding slotDistance
@@ -24,4 +15,4 @@ returns-2 c = c .color-distance .ensures ∙ rw (c .before .before .s .given .1)
 
 pub slot-distance-spec : {M : Type 1} → statement M
 slot-distance-spec =
-    tie.close (tie.spec enum-known-s enum-told returns color-distance-requires returns-2)
+    tie.close (tie.spec (λ c. search needs) (λ c. search needs) returns (λ c κs. search needs) returns-2)

@@ -12,14 +12,5 @@ returns c =
     let a = c .before .args in
     sym (set-out (a .palette) (a .skip) Empty (omega arith))
 
-mul-out : tie.Need-mul-out
-mul-out c = search needs
-
-array-set-from-out : tie.Need-array-set-from-out
-array-set-from-out c = search needs
-
-returns-2 : tie.Need-returns-2
-returns-2 c = search needs
-
 pub without-spec : {M : Type 1} → statement M
-without-spec = tie.close (tie.spec returns mul-out array-set-from-out returns-2)
+without-spec = tie.close (tie.spec returns (λ c. search needs) (λ c. search needs) (λ c. search needs))

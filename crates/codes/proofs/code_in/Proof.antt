@@ -26,15 +26,6 @@ module _ (t : Color) {chart : List Slot} {f : Found} (p : chart ≡ pecPalette) 
   unfolding foundOr
   none h = rw (told h)
 
-nearest-index-requires : tie.Need-nearest-index-requires
-nearest-index-requires c κs = search needs
-
-enum-known-found : tie.Need-enum-known-found
-enum-known-found c = search needs
-
-enum-told : tie.Need-enum-told
-enum-told c = search needs
-
 returns : tie.Need-returns
 returns c = none (c .before .before .before .args .t) (c .before .before .before .pre) (c .before .before .nearest-index .ensures) (c .enum-told .given .1)
 
@@ -43,4 +34,4 @@ returns-2 c = some (c .before .before .before .before .args .t) (c .before .befo
 
 pub code-in-spec : {M : Type 1} → statement M
 code-in-spec =
-    tie.close (tie.spec nearest-index-requires enum-known-found enum-told returns returns-2)
+    tie.close (tie.spec (λ c κs. search needs) (λ c. search needs) (λ c. search needs) returns returns-2)

@@ -37,12 +37,4 @@ pub thread-at-spec : {M : Type 1} → statement M
 thread-at-spec =
     tie.close
     (tie.spec
-    mul-t3
-    shared-slice-read-t5
-    mul-t6
-    add-t7
-    shared-slice-read-t9
-    mul-t10
-    add-t11
-    shared-slice-read-t13
-    returns)
+    mul-t3 shared-slice-read-t5 mul-t6 add-t7 shared-slice-read-t9 mul-t10 add-t11 shared-slice-read-t13 returns)

@@ -4,12 +4,6 @@ use borrow.Author.Needs.{needs}
 use Rattle.codes.proofs.thread_code.Statement.{statement}
 use Rattle.codes.proofs.thread_code.Tie as tie
 
-thread-or-black-requires : tie.Need-thread-or-black-requires
-thread-or-black-requires c κs = search needs
-
-pec-palette-requires : tie.Need-pec-palette-requires
-pec-palette-requires c κs = search needs
-
 code-in-requires : tie.Need-code-in-requires
 code-in-requires c κs = c .pec-palette .ensures
 
@@ -19,4 +13,4 @@ returns c = rw (c .before .before .thread-or-black .ensures) at (c .code-in .ens
 
 pub thread-code-spec : {M : Type 1} → statement M
 thread-code-spec =
-    tie.close (tie.spec thread-or-black-requires pec-palette-requires code-in-requires returns)
+    tie.close (tie.spec (λ c κs. search needs) (λ c κs. search needs) code-in-requires returns)

@@ -60,18 +60,5 @@ pub thread-codes-spec : {M : Type 1} → statement M
 thread-codes-spec =
     tie.close
     (tie.spec
-    Inv-loop
-    μ-loop
-    pec-palette-requires
-    code-in-requires
-    cast-black
-    loop-holds
-    returns
-    thread-at-requires
-    code-in-requires-2
-    cast-codes
-    array-write-codes
-    add-i
-    loop-less
-    loop-again
-    returns-2)
+    Inv-loop μ-loop pec-palette-requires code-in-requires cast-black loop-holds returns thread-at-requires
+    code-in-requires-2 cast-codes array-write-codes add-i loop-less loop-again returns-2)

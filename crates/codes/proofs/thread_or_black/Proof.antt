@@ -13,11 +13,8 @@ use Rattle.codes.proofs.thread_or_black.Tie as tie
 thread-at-requires : tie.Need-thread-at-requires
 thread-at-requires c κs = omega (arith, c .if1 .taken, length-threads (now (c .before .before .args .threads)))
 
-returns : tie.Need-returns
-returns c = search needs
-
 returns-2 : tie.Need-returns-2
 returns-2 c = sym (List·getD-eq-default (threadsOf (now (c .before .before .args .threads))) (color 0 0 0) (omega (arith, c .if1 .left, length-threads (now (c .before .before .args .threads)))))
 
 pub thread-or-black-spec : {M : Type 1} → statement M
-thread-or-black-spec = tie.close (tie.spec thread-at-requires returns returns-2)
+thread-or-black-spec = tie.close (tie.spec thread-at-requires (λ c. search needs) returns-2)

@@ -21,12 +21,6 @@ not-trim Trim k = absurd (miss (0 ∷ 1 ∷ 3 ∷ 4 ∷ []) 2 tt k)
 not-trim ColorChange k = refl
 not-trim End k = refl
 
-op-of-requires : tie.Need-op-of-requires
-op-of-requires c κs = search needs
-
-enum-told : tie.Need-enum-told
-enum-told c = search needs
-
 returns : tie.Need-returns
 unfolding isTrim
 returns c = rw (← c .before .before .op-of .ensures, c .enum-told .given .1)
@@ -35,4 +29,4 @@ returns-2 : tie.Need-returns-2
 returns-2 c = not-trim (c .before .op-of .result) (c .match .keys2) ∙ ap isTrim (c .before .op-of .ensures)
 
 pub is-trim-spec : {M : Type 1} → statement M
-is-trim-spec = tie.close (tie.spec op-of-requires enum-told returns returns-2)
+is-trim-spec = tie.close (tie.spec (λ c κs. search needs) (λ c. search needs) returns returns-2)

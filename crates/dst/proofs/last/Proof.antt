@@ -13,18 +13,9 @@ use Rattle.dst.proofs.last.Tie as tie
 returns : tie.Need-returns
 returns c = rw (eq-eqb (c .before .args .n) 0 (c .if1 .taken))
 
-sub-result : tie.Need-sub-result
-sub-result c = search needs
-
-mul-result : tie.Need-mul-result
-mul-result c = search needs
-
-shared-slice-copy-out-result : tie.Need-shared-slice-copy-out-result
-shared-slice-copy-out-result c = search needs
-
 returns-2 : tie.Need-returns-2
 returns-2 c = rw (ne-eqb (c .before .before .args .n) 0 (c .before .if1 .left)) (ret w32 (getD (now (c .before .before .args .zs)) (c .before .before .args .n - 1) (pos 0)) (c .result .given))
 
 pub last-spec : {M : Type 1} → statement M
 last-spec =
-    tie.close (tie.spec returns sub-result mul-result shared-slice-copy-out-result returns-2)
+    tie.close (tie.spec returns (λ c. search needs) (λ c. search needs) (λ c. search needs) returns-2)

@@ -16,9 +16,6 @@ cast-size c = let f : SFits w32 (c .before .before .before .args .b .max .x) = s
 size-requires : tie.Need-size-requires
 size-requires c κs = let f : SFits w32 (c .before .before .before .args .b .max .x) = search needs in wide-small f
 
-put-number-requires : tie.Need-put-number-requires
-put-number-requires c κs = search needs
-
 cast-size-2 : tie.Need-cast-size-2
 cast-size-2 c = let f : SFits w32 (c .before .before .before .before .before .before .before .before .before .before .args .b .min .x) = search needs in wide-fits f
 
@@ -66,17 +63,5 @@ pub put-bounds-spec : {M : Type 1} → statement M
 put-bounds-spec =
     tie.close
     (tie.spec
-    cast-size
-    size-requires
-    put-number-requires
-    cast-size-2
-    size-requires-2
-    put-number-requires-2
-    cast-size-3
-    size-requires-3
-    put-number-requires-3
-    cast-size-4
-    size-requires-4
-    put-number-requires-4
-    same-length
-    returns)
+    cast-size size-requires (λ c κs. search needs) cast-size-2 size-requires-2 put-number-requires-2 cast-size-3
+    size-requires-3 put-number-requires-3 cast-size-4 size-requires-4 put-number-requires-4 same-length returns)

@@ -7,14 +7,8 @@ use borrow.Author.Needs.{needs}
 use Rattle.dst.proofs.put_counts.Statement.{statement}
 use Rattle.dst.proofs.put_counts.Tie as tie
 
-put-number-requires : tie.Need-put-number-requires
-put-number-requires c κs = search needs
-
 put-number-requires-2 : tie.Need-put-number-requires-2
 put-number-requires-2 c κs = (omega arith, omega (arith, after-put (number-line 0x53 0x54 7 (c .before .before .before .before .before .before .args .records)) (c .before .before .before .put-number .ensures), c .before .before .before .before .before .before .pre))
-
-same-length : tie.Need-same-length
-same-length c = search needs
 
 returns : tie.Need-returns
 unfolding joined
@@ -22,4 +16,4 @@ returns c = put-put (c .before .before .before .before .before .before .put-numb
 
 pub put-counts-spec : {M : Type 1} → statement M
 put-counts-spec =
-    tie.close (tie.spec put-number-requires put-number-requires-2 same-length returns)
+    tie.close (tie.spec (λ c κs. search needs) put-number-requires-2 (λ c. search needs) returns)

@@ -6,22 +6,12 @@ use borrow.Author.Needs.{needs}
 use Rattle.dst.proofs.put_end.Statement.{statement}
 use Rattle.dst.proofs.put_end.Tie as tie
 
-put3-requires : tie.Need-put3-requires
-put3-requires c κs = search needs
-
-put-times-requires : tie.Need-put-times-requires
-put-times-requires c κs = search needs
-
-put2-requires : tie.Need-put2-requires
-put2-requires c κs = search needs
-
-same-length : tie.Need-same-length
-same-length c = search needs
-
 returns : tie.Need-returns
 unfolding line joined
 returns c = put-put (c .before .before .before .before .before .before .before .before .before .before .put3 .ensures) (put-put (c .before .before .before .before .before .before .put-times .ensures) (c .before .before .put2 .ensures))
 
 pub put-end-spec : {M : Type 1} → statement M
 put-end-spec =
-    tie.close (tie.spec put3-requires put-times-requires put2-requires same-length returns)
+    tie.close
+    (tie.spec
+    (λ c κs. search needs) (λ c κs. search needs) (λ c κs. search needs) (λ c. search needs) returns)

@@ -28,9 +28,6 @@ put-stream-requires c κs =
     let cs = commands (now (a .xs)) (now (a .ys)) (now (a .kinds)) in
     (c .before .before .before .before .before .before .before .before .before .before .before .before .pre .0 .1, omega (arith, length-file (now (a .name)) cs, length-text (now (a .name)) cs, c .before .before .before .before .before .before .before .put-text-of .ensures .ends, put-length (c .before .before .before .before .before .before .before .put-text-of .ensures), c .before .before .before .put-times .ensures .ends, put-length (c .before .before .before .put-times .ensures), length-replicate {A = ℕ} 387 0x20, c .before .before .before .before .before .before .before .before .before .before .before .before .pre .1))
 
-same-length : tie.Need-same-length
-same-length c = search needs
-
 returns : tie.Need-returns
 returns c =
     let a = c .before .before .before .before .before .before .before .before .before .before .before .before .before .before .before .args in
@@ -39,4 +36,4 @@ returns c =
 pub put-file-spec : {M : Type 1} → statement M
 put-file-spec =
     tie.close
-    (tie.spec put-text-of-requires put-times-requires put-stream-requires same-length returns)
+    (tie.spec put-text-of-requires put-times-requires put-stream-requires (λ c. search needs) returns)

@@ -7,18 +7,9 @@ use borrow.Author.Needs.{needs}
 use Rattle.dst.proofs.put_label.Statement.{statement}
 use Rattle.dst.proofs.put_label.Tie as tie
 
-put3-requires : tie.Need-put3-requires
-put3-requires c κs = search needs
-
-put-name-requires : tie.Need-put-name-requires
-put-name-requires c κs = search needs
-
 put-requires : tie.Need-put-requires
 unfolding dstName
 put-requires c κs = omega (arith, after-put (length-name (now (c .before .before .before .before .before .before .before .before .before .before .before .args .name))) (c .before .before .before .put-name .ensures), c .before .before .before .before .before .before .before .put3 .ensures .ends, c .before .before .before .before .before .before .before .put3 .kept .0, c .before .before .before .before .before .before .before .before .before .before .before .pre)
-
-same-length : tie.Need-same-length
-same-length c = search needs
 
 returns : tie.Need-returns
 unfolding dstName
@@ -26,4 +17,4 @@ returns c = put-line (c .before .before .before .before .before .before .before 
 
 pub put-label-spec : {M : Type 1} → statement M
 put-label-spec =
-    tie.close (tie.spec put3-requires put-name-requires put-requires same-length returns)
+    tie.close (tie.spec (λ c κs. search needs) (λ c κs. search needs) put-requires (λ c. search needs) returns)

@@ -30,9 +30,6 @@ put-signed-requires-3 c κs = (omega arith, omega (arith, after-put (signed-line
 put-signed-requires-4 : tie.Need-put-signed-requires-4
 put-signed-requires-4 c κs = (omega arith, omega (arith, after-put (signed-line 0x41 0x58 _) (c .before .before .before .before .before .before .before .before .before .before .before .put-signed .ensures), after-put (signed-line 0x41 0x59 _) (c .before .before .before .before .before .before .before .put-signed2 .ensures), after-put (signed-line 0x4D 0x58 (pos 0)) (c .before .before .before .put-signed3 .ensures), c .before .before .before .before .before .before .before .before .before .before .before .before .before .before .pre))
 
-same-length : tie.Need-same-length
-same-length c = search needs
-
 returns : tie.Need-returns
 unfolding joined
 returns c =
@@ -45,12 +42,5 @@ pub put-last-spec : {M : Type 1} → statement M
 put-last-spec =
     tie.close
     (tie.spec
-    cast-put-signed
-    put-signed-requires
-    cast-put-signed-2
-    sub-put-signed
-    put-signed-requires-2
-    put-signed-requires-3
-    put-signed-requires-4
-    same-length
-    returns)
+    cast-put-signed put-signed-requires cast-put-signed-2 sub-put-signed put-signed-requires-2 put-signed-requires-3
+    put-signed-requires-4 (λ c. search needs) returns)

@@ -8,26 +8,8 @@ use borrow.Author.Needs.{needs}
 use Rattle.dst.proofs.put_signed.Statement.{statement}
 use Rattle.dst.proofs.put_signed.Tie as tie
 
-put3-requires : tie.Need-put3-requires
-put3-requires c κs = search needs
-
-sign-of-requires : tie.Need-sign-of-requires
-sign-of-requires c κs = search needs
-
-put-requires : tie.Need-put-requires
-put-requires c κs = search needs
-
-size-requires : tie.Need-size-requires
-size-requires c κs = search needs
-
-put-right-requires : tie.Need-put-right-requires
-put-right-requires c κs = search needs
-
 put-requires-2 : tie.Need-put-requires-2
 put-requires-2 c κs = omega (arith, c .before .before .before .put-right .ensures .ends, length-right 5 (c .before .before .before .before .size .result), c .before .before .before .put-right .kept .0, c .before .before .before .before .before .before .before .before .put .ensures .ends, c .before .before .before .before .before .before .before .before .put .kept .0, c .before .before .before .before .before .before .before .before .before .before .before .before .before .put3 .ensures .ends, c .before .before .before .before .before .before .before .before .before .before .before .before .before .put3 .kept .0, c .before .before .before .before .before .before .before .before .before .before .before .before .before .before .before .before .pre .1)
-
-same-length : tie.Need-same-length
-same-length c = search needs
 
 returns : tie.Need-returns
 returns c = put-line (c .before .before .before .before .before .before .before .before .before .before .before .before .before .before .before .before .put3 .ensures) (put-as (put-put (c .before .before .before .before .before .before .before .before .before .before .before .put .ensures) (c .before .before .before .before .before .before .put-right .ensures)) (signed-text (c .before .before .before .before .before .before .before .before .before .before .before .before .before .before .before .before .before .before .before .args .z) (rw (toZ-ofZ (c .before .before .before .before .before .before .before .before .before .before .before .before .before .before .before .before .before .before .before .fits .z)) at (c .before .before .before .before .before .before .before .before .before .before .before .before .sign-of .ensures)) (rw (toZ-ofZ (c .before .before .before .before .before .before .before .before .before .before .before .before .before .before .before .before .before .before .before .fits .z)) at (c .before .before .before .before .before .before .before .size .ensures)))) (c .before .before .put2 .ensures)
@@ -36,11 +18,5 @@ pub put-signed-spec : {M : Type 1} → statement M
 put-signed-spec =
     tie.close
     (tie.spec
-    put3-requires
-    sign-of-requires
-    put-requires
-    size-requires
-    put-right-requires
-    put-requires-2
-    same-length
-    returns)
+    (λ c κs. search needs) (λ c κs. search needs) (λ c κs. search needs) (λ c κs. search needs)
+    (λ c κs. search needs) put-requires-2 (λ c. search needs) returns)

@@ -16,23 +16,8 @@ use borrow.Author.Needs.{needs}
 use Rattle.dst.proofs.put_text_of.Statement.{statement}
 use Rattle.dst.proofs.put_text_of.Tie as tie
 
-list-len-requires : tie.Need-list-len-requires
-list-len-requires c κs = search needs
-
-trims-requires : tie.Need-trims-requires
-trims-requires c κs = search needs
-
-mul-records : tie.Need-mul-records
-mul-records c = search needs
-
 add-records : tie.Need-add-records
 add-records c = omega (arith, c .before .list-len .ensures, length-commands (now (c .before .before .before .before .before .args .xs)) (now (c .before .before .before .before .before .args .ys)) (now (c .before .before .before .before .before .args .kinds)), c .trims .ensures .1, c .before .before .before .before .before .pre .0)
-
-color-changes-requires : tie.Need-color-changes-requires
-color-changes-requires c κs = search needs
-
-put-label-requires : tie.Need-put-label-requires
-put-label-requires c κs = search needs
 
 cast-put-counts : tie.Need-cast-put-counts
 cast-put-counts c = omega (ints, c .before .before .before .before .before .before .list-len .ensures, length-commands (now (c .before .before .before .before .before .before .before .before .before .before .args .xs)) (now (c .before .before .before .before .before .before .before .before .before .before .args .ys)) (now (c .before .before .before .before .before .before .before .before .before .before .args .kinds)), c .before .before .before .before .before .trims .ensures .1, c .before .before .before .before .before .before .before .before .before .before .pre .0)
@@ -42,9 +27,6 @@ cast-put-counts-2 c = omega (ints, c .before .before .before .before .before .be
 
 put-counts-requires : tie.Need-put-counts-requires
 put-counts-requires c κs = omega (arith, after-put (length-label (now (c .before .before .before .before .before .before .before .before .before .before .before .args .name))) (c .before .before .before .put-label .ensures), c .before .before .before .before .before .before .before .before .before .before .before .pre .1)
-
-stream-bounds-requires : tie.Need-stream-bounds-requires
-stream-bounds-requires c κs = search needs
 
 put-bounds-requires : tie.Need-put-bounds-requires
 put-bounds-requires c κs = omega (arith, after-put (length-label (now (c .before .before .before .before .before .before .before .before .before .before .before .before .before .before .before .before .args .name))) (c .before .before .before .before .before .before .before .before .put-label .ensures), after-put (length-counts (c .before .before .before .before .before .before .before .before .before .before .before .before .list-len .result + 2 * c .before .before .before .before .before .before .before .before .before .before .before .trims .result) (c .before .before .before .before .before .before .before .before .before .before .color-changes .result)) (c .before .before .before .before .put-counts .ensures), c .before .before .before .before .before .before .before .before .before .before .before .before .before .before .before .before .pre .1)
@@ -61,9 +43,6 @@ put-last-requires c κs = omega (arith, after-put (length-label (now (c .before 
 put-end-requires : tie.Need-put-end-requires
 put-end-requires c κs = omega (arith, after-put (length-label (now (c .before .before .before .before .before .before .before .before .before .before .before .before .before .before .before .before .before .before .before .before .before .before .before .before .before .before .args .name))) (c .before .before .before .before .before .before .before .before .before .before .before .before .before .before .before .before .before .before .put-label .ensures), after-put (length-counts (c .before .before .before .before .before .before .before .before .before .before .before .before .before .before .before .before .before .before .before .before .before .before .list-len .result + 2 * c .before .before .before .before .before .before .before .before .before .before .before .before .before .before .before .before .before .before .before .before .before .trims .result) (c .before .before .before .before .before .before .before .before .before .before .before .before .before .before .before .before .before .before .before .before .color-changes .result)) (c .before .before .before .before .before .before .before .before .before .before .before .before .before .before .put-counts .ensures), after-put (length-bounds (c .before .before .before .before .before .before .before .before .before .before .before .stream-bounds .result .max .x) (c .before .before .before .before .before .before .before .before .before .before .before .stream-bounds .result .min .x) (c .before .before .before .before .before .before .before .before .before .before .before .stream-bounds .result .max .y) (c .before .before .before .before .before .before .before .before .before .before .before .stream-bounds .result .min .y)) (c .before .before .before .before .before .before .before .before .before .put-bounds .ensures), after-put (length-last (toZ w32 (ofZ w32 (c .before .before .before .before .before .before .last .result))) (toZ w32 (ofZ w32 (c .before .before .before .before .before .last2 .result)))) (c .before .before .before .put-last .ensures), c .before .before .before .before .before .before .before .before .before .before .before .before .before .before .before .before .before .before .before .before .before .before .before .before .before .before .pre .1)
 
-same-length : tie.Need-same-length
-same-length c = search needs
-
 returns : tie.Need-returns
 returns c =
     let a = c .before .before .before .before .before .before .before .before .before .before .before .before .before .before .before .before .before .before .before .before .before .before .before .before .before .before .before .before .before .args in
@@ -77,20 +56,6 @@ pub put-text-of-spec : {M : Type 1} → statement M
 put-text-of-spec =
     tie.close
     (tie.spec
-    list-len-requires
-    trims-requires
-    mul-records
-    add-records
-    color-changes-requires
-    put-label-requires
-    cast-put-counts
-    cast-put-counts-2
-    put-counts-requires
-    stream-bounds-requires
-    put-bounds-requires
-    last-requires
-    last-requires-2
-    put-last-requires
-    put-end-requires
-    same-length
-    returns)
+    (λ c κs. search needs) (λ c κs. search needs) (λ c. search needs) add-records (λ c κs. search needs)
+    (λ c κs. search needs) cast-put-counts cast-put-counts-2 put-counts-requires (λ c κs. search needs)
+    put-bounds-requires last-requires last-requires-2 put-last-requires put-end-requires (λ c. search needs) returns)

@@ -76,14 +76,5 @@ pub trims-spec : {M : Type 1} → statement M
 trims-spec =
     tie.close
     (tie.spec
-    Inv-loop
-    μ-loop
-    list-len-requires
-    loop-holds
-    shared-slice-read-is-trim
-    is-trim-requires
-    add-found
-    add-i
-    loop-less
-    loop-again
-    returns)
+    Inv-loop μ-loop list-len-requires loop-holds shared-slice-read-is-trim is-trim-requires add-found add-i
+    loop-less loop-again returns)

@@ -10,9 +10,6 @@ use borrow.Author.Needs.{needs}
 use Rattle.dst.proofs.write_accepted.Statement.{statement}
 use Rattle.dst.proofs.write_accepted.Tie as tie
 
-stream-len-requires : tie.Need-stream-len-requires
-stream-len-requires c κs = search needs
-
 add-n : tie.Need-add-n
 add-n c =
     let a = c .before .before .before .before .args in
@@ -30,9 +27,6 @@ put-file-requires c κs =
     let cs = commands (now (a .xs)) (now (a .ys)) (now (a .kinds)) in
     (c .before .before .before .before .before .before .pre, omega (arith, length-file (now (a .name)) cs, c .before .before .stream-len .ensures, c .before .if1 .left))
 
-same-length : tie.Need-same-length
-same-length c = search needs
-
 returns-2 : tie.Need-returns-2
 returns-2 c =
     let a = c .before .before .before .before .before .before .before .before .before .args in
@@ -41,4 +35,4 @@ returns-2 c =
 
 pub write-accepted-spec : {M : Type 1} → statement M
 write-accepted-spec =
-    tie.close (tie.spec stream-len-requires add-n returns put-file-requires same-length returns-2)
+    tie.close (tie.spec (λ c κs. search needs) add-n returns put-file-requires (λ c. search needs) returns-2)

@@ -13,21 +13,9 @@ ten-some : (k : ℕ) → 0 < 10 ^ k
 ten-some zero = omega arith
 ten-some (suc k) = let h = ten-some k in rw (pow-suc 10 k) (omega arith)
 
-cast-result : tie.Need-cast-result
-cast-result c = search needs
-
-add-result : tie.Need-add-result
-add-result c = search needs
-
 returns : tie.Need-returns
 unfolding digitAt
 returns c = rw (c .if1 .taken) (omega arith)
-
-mul-p : tie.Need-mul-p
-mul-p c = search needs
-
-array-read-p : tie.Need-array-read-p
-array-read-p c = search needs
 
 returns-2 : tie.Need-returns-2
 unfolding digitAt
@@ -35,12 +23,6 @@ returns-2 c = let a = c .before .before .args in rw (lt-ltb 0 (a .k) (omega (ari
 
 div-result : tie.Need-div-result
 div-result c = let k = c .before .before .args .k in rw (tens k (c .before .before .pre)) (ten-some k)
-
-cast-result-2 : tie.Need-cast-result-2
-cast-result-2 c = search needs
-
-add-result-2 : tie.Need-add-result-2
-add-result-2 c = search needs
 
 returns-3 : tie.Need-returns-3
 unfolding digitAt
@@ -53,13 +35,5 @@ pub digit-at-spec : {M : Type 1} → statement M
 digit-at-spec =
     tie.close
     (tie.spec
-    cast-result
-    add-result
-    returns
-    mul-p
-    array-read-p
-    returns-2
-    div-result
-    cast-result-2
-    add-result-2
-    returns-3)
+    (λ c. search needs) (λ c. search needs) returns (λ c. search needs) (λ c. search needs) returns-2 div-result
+    (λ c. search needs) (λ c. search needs) returns-3)

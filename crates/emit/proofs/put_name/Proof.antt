@@ -139,23 +139,6 @@ pub put-name-spec : {M : Type 1} → statement M
 put-name-spec =
     tie.close
     (tie.spec
-    Inv-loop
-    μ-loop
-    sub-fill
-    loop-holds
-    put-times-requires
-    same-length
-    returns
-    shared-slice-read-b
-    add-i
-    stays-requires
-    loop-less
-    loop-again
-    put-requires
-    sub-left
-    loop-less-2
-    loop-again-2
-    add-put-times
-    put-times-requires-2
-    same-length-2
-    returns-2)
+    Inv-loop μ-loop sub-fill loop-holds put-times-requires same-length returns shared-slice-read-b add-i
+    stays-requires loop-less loop-again put-requires sub-left loop-less-2 loop-again-2 add-put-times
+    put-times-requires-2 same-length-2 returns-2)

@@ -51,14 +51,5 @@ pub put-right-spec : {M : Type 1} → statement M
 put-right-spec =
     tie.close
     (tie.spec
-    Inv-loop
-    μ-loop
-    loop-holds
-    sub-digit-at
-    digit-at-requires
-    put-requires
-    sub-left
-    loop-less
-    loop-again
-    same-length
+    Inv-loop μ-loop loop-holds sub-digit-at digit-at-requires put-requires sub-left loop-less loop-again same-length
     returns)

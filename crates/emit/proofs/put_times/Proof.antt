@@ -42,14 +42,4 @@ returns c = writing-done (c .before .loop .inv) (rw (zero-at (c .before .loop .l
 
 pub put-times-spec : {M : Type 1} → statement M
 put-times-spec =
-    tie.close
-    (tie.spec
-    Inv-loop
-    μ-loop
-    loop-holds
-    put-requires
-    sub-left
-    loop-less
-    loop-again
-    same-length
-    returns)
+    tie.close (tie.spec Inv-loop μ-loop loop-holds put-requires sub-left loop-less loop-again same-length returns)

@@ -25,8 +25,5 @@ returns c = let f = c .before .fits .z in rw (toZ-ofZ (sub-result c), toZ-ofZ f)
 cast-result-2 : tie.Need-cast-result-2
 cast-result-2 c = let f = c .before .fits .z in omega (ints, seen f, abs-is (c .before .args .z), c .before .pre)
 
-returns-2 : tie.Need-returns-2
-returns-2 c = search needs
-
 pub size-spec : {M : Type 1} → statement M
-size-spec = tie.close (tie.spec sub-result cast-result returns cast-result-2 returns-2)
+size-spec = tie.close (tie.spec sub-result cast-result returns cast-result-2 (λ c. search needs))

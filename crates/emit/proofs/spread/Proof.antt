@@ -19,9 +19,6 @@ module _ {lo hi z : ℤ} (f : SFits w32 lo) (g : SFits w32 hi) (k : mag z < 2 ^ 
   room : natAbs (toZ w64 (ofZ w64 z)) ≤ 4294967295
   room = rw same (omega (arith, abs-is (hi -ℤ lo), sub-law hi lo, one0 (hi -ℤ lo), seen f, seen g))
 
-span-requires : tie.Need-span-requires
-span-requires c κs = search needs
-
 size-requires : tie.Need-size-requires
 size-requires c κs = room (c .before .fits .a) (c .before .fits .b) (c .span .ok) (c .span .ensures)
 
@@ -29,4 +26,4 @@ returns : tie.Need-returns
 returns c = c .size .ensures ∙ same (c .before .before .fits .a) (c .before .before .fits .b) (c .before .span .ok) (c .before .span .ensures)
 
 pub spread-spec : {M : Type 1} → statement M
-spread-spec = tie.close (tie.spec span-requires size-requires returns)
+spread-spec = tie.close (tie.spec (λ c κs. search needs) size-requires returns)

@@ -16,11 +16,8 @@ as-byte false = refl
 returns : tie.Need-returns
 returns c = rw (lt-leb _ _ (c .if1 .taken))
 
-cast-result : tie.Need-cast-result
-cast-result c = search needs
-
 returns-2 : tie.Need-returns-2
 returns-2 c = rw (le-leb _ _ (c .if1 .left)) (as-byte (leb (c .before .args .kind) (c .before .args .hi)))
 
 pub is-in-spec : {M : Type 1} → statement M
-is-in-spec = tie.close (tie.spec returns cast-result returns-2)
+is-in-spec = tie.close (tie.spec returns (λ c. search needs) returns-2)

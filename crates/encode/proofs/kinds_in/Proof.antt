@@ -71,14 +71,5 @@ pub kinds-in-spec : {M : Type 1} → statement M
 kinds-in-spec =
     tie.close
     (tie.spec
-    Inv-loop
-    μ-loop
-    loop-holds
-    shared-slice-read-is-in
-    is-in-requires
-    add-found
-    add-i
-    loop-less
-    loop-again
-    cast-result
-    returns)
+    Inv-loop μ-loop loop-holds shared-slice-read-is-in is-in-requires add-found add-i loop-less loop-again
+    cast-result returns)

@@ -15,9 +15,6 @@ use Rattle.encode.proofs.Lengths.{Told, lengths}
 use Rattle.encode.proofs.stream_len.Statement.{statement}
 use Rattle.encode.proofs.stream_len.Tie as tie
 
-list-len-requires : tie.Need-list-len-requires
-list-len-requires c κs = search needs
-
 -- how many commands there are, and what their kinds tell
 few : (c : tie.After-list-len) → (c .list-len .result ≤ length (now (c .before .before .args .kinds))) × (c .list-len .result ≤ 65535)
 few c = let a = c .before .before .args in omega (arith, length-commands (now (a .xs)) (now (a .ys)) (now (a .kinds)), c .before .before .pre)
@@ -30,9 +27,6 @@ told : (c : tie.After-list-len) (f : Stream)
     Told f (length (written (cmdOf f) (pos 0) (pos 0) cs)) n (count (kindIn 0 0) kinds) (count (kindIn 1 3) kinds) (count (kindIn 2 2) kinds))
 told c f = let a = c .before .before .args in rw (c .list-len .ensures) (lengths f (pos 0) (pos 0) (now (a .xs)) (now (a .ys)) (now (a .kinds)))
 
-enum-told : tie.Need-enum-told
-enum-told c = search needs
-
 mul-result : tie.Need-mul-result
 mul-result c = omega (arith, few (c .before .before))
 
@@ -44,9 +38,6 @@ mul-result-2 c = omega (arith, few (c .before .before .before))
 
 add-result : tie.Need-add-result
 add-result c = omega (arith, few (c .before .before .before))
-
-enum-told-2 : tie.Need-enum-told-2
-enum-told-2 c = search needs
 
 kinds-in-requires-2 : tie.Need-kinds-in-requires-2
 kinds-in-requires-2 c κs = few (c .before .before)
@@ -62,9 +53,6 @@ mul-result-4 c = omega (arith, few (c .before .before .before .before))
 
 add-result-2 : tie.Need-add-result-2
 add-result-2 c = omega (arith, few (c .before .before .before .before))
-
-enum-told-3 : tie.Need-enum-told-3
-enum-told-3 c = search needs
 
 mul-result-5 : tie.Need-mul-result-5
 mul-result-5 c = omega (arith, few (c .before .before))
@@ -100,26 +88,7 @@ pub stream-len-spec : {M : Type 1} → statement M
 stream-len-spec =
     tie.close
     (tie.spec
-    list-len-requires
-    enum-told
-    mul-result
-    kinds-in-requires
-    mul-result-2
-    add-result
-    enum-told-2
-    kinds-in-requires-2
-    mul-result-3
-    kinds-in-requires-3
-    mul-result-4
-    add-result-2
-    enum-told-3
-    mul-result-5
-    kinds-in-requires-4
-    mul-result-6
-    add-result-3
-    kinds-in-requires-5
-    mul-result-7
-    sub-result
-    returns
-    returns-2
-    returns-3)
+    (λ c κs. search needs) (λ c. search needs) mul-result kinds-in-requires mul-result-2 add-result
+    (λ c. search needs) kinds-in-requires-2 mul-result-3 kinds-in-requires-3 mul-result-4 add-result-2
+    (λ c. search needs) mul-result-5 kinds-in-requires-4 mul-result-6 add-result-3 kinds-in-requires-5 mul-result-7
+    sub-result returns returns-2 returns-3)

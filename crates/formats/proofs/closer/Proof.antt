@@ -21,20 +21,8 @@ module _ (later : Bool) (c : Color) (best : Best) (i : ℕ) {s : Slot} {t : Colo
   miss : takes later (best .at) (best .distance) d ≡ false → best ≡ closerOf later c best s i
   miss h = rw (e, ← f, h)
 
-enum-known-s : tie.Need-enum-known-s
-enum-known-s c = search needs
-
-enum-told : tie.Need-enum-told
-enum-told c = search needs
-
 returns : tie.Need-returns
 returns c = rw (c .enum-told .given .1)
-
-color-distance-requires : tie.Need-color-distance-requires
-color-distance-requires c κs = search needs
-
-takes-requires : tie.Need-takes-requires
-takes-requires c κs = search needs
 
 returns-2 : tie.Need-returns-2
 returns-2 c =
@@ -50,10 +38,5 @@ pub closer-spec : {M : Type 1} → statement M
 closer-spec =
     tie.close
     (tie.spec
-    enum-known-s
-    enum-told
-    returns
-    color-distance-requires
-    takes-requires
-    returns-2
+    (λ c. search needs) (λ c. search needs) returns (λ c κs. search needs) (λ c κs. search needs) returns-2
     returns-3)

@@ -5,15 +5,9 @@ use borrow.Author.Needs.{needs}
 use Rattle.formats.proofs.extension_of.Statement.{statement}
 use Rattle.formats.proofs.extension_of.Tie as tie
 
-is-named-requires : tie.Need-is-named-requires
-is-named-requires c κs = search needs
-
 returns : tie.Need-returns
 unfolding extensionOf namedIn
 returns c = rw (sym (c .before .is-named .ensures) ∙ c .if1 .taken)
-
-is-named-requires-2 : tie.Need-is-named-requires-2
-is-named-requires-2 c κs = search needs
 
 returns-2 : tie.Need-returns-2
 unfolding extensionOf namedIn
@@ -21,9 +15,6 @@ returns-2 c = rw (
   sym (c .before .before .before .is-named .ensures) ∙ c .before .before .if1 .left,
   sym (c .before .is-named2 .ensures) ∙ c .if2 .taken,
 )
-
-is-named-requires-3 : tie.Need-is-named-requires-3
-is-named-requires-3 c κs = search needs
 
 returns-3 : tie.Need-returns-3
 unfolding extensionOf namedIn
@@ -33,9 +24,6 @@ returns-3 c = rw (
   sym (c .before .is-named3 .ensures) ∙ c .if3 .taken,
 )
 
-is-named-requires-4 : tie.Need-is-named-requires-4
-is-named-requires-4 c κs = search needs
-
 returns-4 : tie.Need-returns-4
 unfolding extensionOf namedIn
 returns-4 c = rw (
@@ -44,9 +32,6 @@ returns-4 c = rw (
   sym (c .before .before .before .is-named3 .ensures) ∙ c .before .before .if3 .left,
   sym (c .before .is-named4 .ensures) ∙ c .if4 .taken,
 )
-
-is-named-requires-5 : tie.Need-is-named-requires-5
-is-named-requires-5 c κs = search needs
 
 returns-5 : tie.Need-returns-5
 unfolding extensionOf namedIn
@@ -72,14 +57,5 @@ pub extension-of-spec : {M : Type 1} → statement M
 extension-of-spec =
     tie.close
     (tie.spec
-    is-named-requires
-    returns
-    is-named-requires-2
-    returns-2
-    is-named-requires-3
-    returns-3
-    is-named-requires-4
-    returns-4
-    is-named-requires-5
-    returns-5
-    returns-6)
+    (λ c κs. search needs) returns (λ c κs. search needs) returns-2 (λ c κs. search needs) returns-3
+    (λ c κs. search needs) returns-4 (λ c κs. search needs) returns-5 returns-6)

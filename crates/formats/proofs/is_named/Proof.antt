@@ -36,22 +36,10 @@ returns c =
     let a = c .before .before .args in
     other (now (a .ext)) (a .a) (a .b) (a .c) (c .if1 .taken)
 
-shared-slice-read-lower : tie.Need-shared-slice-read-lower
-shared-slice-read-lower c = search needs
-
-lower-requires : tie.Need-lower-requires
-lower-requires c κs = search needs
-
 returns-2 : tie.Need-returns-2
 returns-2 c =
     let a = c .before .before .before .before .before .args in
     rw (three (now (a .ext)) (a .a) (a .b) (a .c) (c .before .before .before .if1 .left), ← c .before .lower .ensures, ne-eqb (c .before .lower .result) (a .a) (c .if2 .taken))
-
-shared-slice-read-lower-2 : tie.Need-shared-slice-read-lower-2
-shared-slice-read-lower-2 c = search needs
-
-lower-requires-2 : tie.Need-lower-requires-2
-lower-requires-2 c κs = search needs
 
 returns-3 : tie.Need-returns-3
 returns-3 c =
@@ -63,12 +51,6 @@ returns-3 c =
       ← c .before .lower2 .ensures,
       ne-eqb (c .before .lower2 .result) (a .b) (c .if3 .taken),
     )
-
-shared-slice-read-lower-3 : tie.Need-shared-slice-read-lower-3
-shared-slice-read-lower-3 c = search needs
-
-lower-requires-3 : tie.Need-lower-requires-3
-lower-requires-3 c κs = search needs
 
 returns-4 : tie.Need-returns-4
 returns-4 c =
@@ -86,13 +68,5 @@ pub is-named-spec : {M : Type 1} → statement M
 is-named-spec =
     tie.close
     (tie.spec
-    returns
-    shared-slice-read-lower
-    lower-requires
-    returns-2
-    shared-slice-read-lower-2
-    lower-requires-2
-    returns-3
-    shared-slice-read-lower-3
-    lower-requires-3
-    returns-4)
+    returns (λ c. search needs) (λ c κs. search needs) returns-2 (λ c. search needs) (λ c κs. search needs)
+    returns-3 (λ c. search needs) (λ c κs. search needs) returns-4)

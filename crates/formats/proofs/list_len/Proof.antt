@@ -6,16 +6,10 @@ use borrow.Author.Needs.{needs}
 use Rattle.formats.proofs.list_len.Statement.{statement}
 use Rattle.formats.proofs.list_len.Tie as tie
 
-smaller-requires : tie.Need-smaller-requires
-smaller-requires c κs = search needs
-
-smaller-requires-2 : tie.Need-smaller-requires-2
-smaller-requires-2 c κs = search needs
-
 returns : tie.Need-returns
 returns c =
     let a = c .before .before .before .args in
     omega (arith, c .smaller2 .ensures, c .before .smaller .ensures, length-commands (now (a .xs)) (now (a .ys)) (now (a .kinds)))
 
 pub list-len-spec : {M : Type 1} → statement M
-list-len-spec = tie.close (tie.spec smaller-requires smaller-requires-2 returns)
+list-len-spec = tie.close (tie.spec (λ c κs. search needs) (λ c κs. search needs) returns)

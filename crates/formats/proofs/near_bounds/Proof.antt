@@ -24,18 +24,6 @@ Inv-loop xs ys kinds n x0₀ y0₀ x1₀ y1₀ i₀ x0 y0 x1 y1 i =
 abbrev μ-loop : tie.MeasureT-loop
 μ-loop xs ys kinds n x0₀ y0₀ x1₀ y1₀ i₀ x0 y0 x1 y1 i = n - i
 
-list-len-requires : tie.Need-list-len-requires Inv-loop μ-loop
-list-len-requires c κs = search needs
-
-empty-requires : tie.Need-empty-requires Inv-loop μ-loop
-empty-requires c κs = search needs
-
-new-requires : tie.Need-new-requires Inv-loop μ-loop
-new-requires c κs = search needs
-
-add-requires : tie.Need-add-requires Inv-loop μ-loop
-add-requires c κs = search needs
-
 returns : tie.Need-returns Inv-loop μ-loop
 unfolding boundsOf minX minY maxX maxY least greatest minZ maxZ
 returns c =
@@ -84,18 +72,6 @@ cast-y c =
     let a = c .before .before .before .before .before .before .before .args in
     let i = c .before .before .before .loop .i in
     rw (ret w32 (getD (now (a .ys)) i (pos 0)) (c .y .given)) (near-y (now (a .xs)) (now (a .ys)) (now (a .kinds)) (c .before .before .before .before .before .before .before .pre) i (inside (c .before .before)))
-
-least-requires : tie.Need-least-requires Inv-loop μ-loop
-least-requires c κs = search needs
-
-least-requires-2 : tie.Need-least-requires-2 Inv-loop μ-loop
-least-requires-2 c κs = search needs
-
-greatest-requires : tie.Need-greatest-requires Inv-loop μ-loop
-greatest-requires c κs = search needs
-
-greatest-requires-2 : tie.Need-greatest-requires-2 Inv-loop μ-loop
-greatest-requires-2 c κs = search needs
 
 add-i : tie.Need-add-i Inv-loop μ-loop
 add-i c = omega arith
@@ -147,17 +123,11 @@ cast-new c = wider (c .before .loop .inv .left)
 cast-new-2 : tie.Need-cast-new-2 Inv-loop μ-loop
 cast-new-2 c = wider (c .before .loop .inv .top)
 
-new-requires-2 : tie.Need-new-requires-2 Inv-loop μ-loop
-new-requires-2 c κs = search needs
-
 cast-new-3 : tie.Need-cast-new-3 Inv-loop μ-loop
 cast-new-3 c = wider (c .before .before .loop .inv .right)
 
 cast-new-4 : tie.Need-cast-new-4 Inv-loop μ-loop
 cast-new-4 c = wider (c .before .before .loop .inv .bottom)
-
-new-requires-3 : tie.Need-new-requires-3 Inv-loop μ-loop
-new-requires-3 c κs = search needs
 
 returns-2 : tie.Need-returns-2 Inv-loop μ-loop
 returns-2 c =
@@ -175,31 +145,7 @@ pub near-bounds-spec : {M : Type 1} → statement M
 near-bounds-spec =
     tie.close
     (tie.spec
-    Inv-loop
-    μ-loop
-    list-len-requires
-    empty-requires
-    new-requires
-    add-requires
-    returns
-    loop-holds
-    mul-x
-    shared-slice-copy-out-x
-    cast-x
-    mul-y
-    shared-slice-copy-out-y
-    cast-y
-    least-requires
-    least-requires-2
-    greatest-requires
-    greatest-requires-2
-    add-i
-    loop-less
-    loop-again
-    cast-new
-    cast-new-2
-    new-requires-2
-    cast-new-3
-    cast-new-4
-    new-requires-3
-    returns-2)
+    Inv-loop μ-loop (λ c κs. search needs) (λ c κs. search needs) (λ c κs. search needs) (λ c κs. search needs)
+    returns loop-holds mul-x shared-slice-copy-out-x cast-x mul-y shared-slice-copy-out-y cast-y
+    (λ c κs. search needs) (λ c κs. search needs) (λ c κs. search needs) (λ c κs. search needs) add-i loop-less
+    loop-again cast-new cast-new-2 (λ c κs. search needs) cast-new-3 cast-new-4 (λ c κs. search needs) returns-2)

@@ -19,15 +19,6 @@ abbrev μ-loop : tie.MeasureT-loop
 loop-holds : tie.Need-loop-holds Inv-loop μ-loop
 loop-holds c = (omega arith, leading-none true (c .args .color) (c .args .t2) 0)
 
-mul-closer : tie.Need-mul-closer Inv-loop μ-loop
-mul-closer c = search needs
-
-array-copy-out-closer : tie.Need-array-copy-out-closer Inv-loop μ-loop
-array-copy-out-closer c = search needs
-
-closer-requires : tie.Need-closer-requires Inv-loop μ-loop
-closer-requires c κs = search needs
-
 add-i : tie.Need-add-i Inv-loop μ-loop
 add-i c = omega arith
 
@@ -51,13 +42,5 @@ pub nearest-index-spec : {M : Type 1} → statement M
 nearest-index-spec =
     tie.close
     (tie.spec
-    Inv-loop
-    μ-loop
-    loop-holds
-    mul-closer
-    array-copy-out-closer
-    closer-requires
-    add-i
-    loop-less
-    loop-again
-    returns)
+    Inv-loop μ-loop loop-holds (λ c. search needs) (λ c. search needs) (λ c κs. search needs) add-i loop-less
+    loop-again returns)

@@ -23,18 +23,6 @@ Inv-loop xs ys kinds n b₀ i₀ b i = (i ≤ n) × (Framing 2147483647 (command
 abbrev μ-loop : tie.MeasureT-loop
 μ-loop xs ys kinds n b₀ i₀ b i = n - i
 
-list-len-requires : tie.Need-list-len-requires Inv-loop μ-loop
-list-len-requires c κs = search needs
-
-empty-requires : tie.Need-empty-requires Inv-loop μ-loop
-empty-requires c κs = search needs
-
-new-requires : tie.Need-new-requires Inv-loop μ-loop
-new-requires c κs = search needs
-
-add-requires : tie.Need-add-requires Inv-loop μ-loop
-add-requires c κs = search needs
-
 returns : tie.Need-returns Inv-loop μ-loop
 unfolding boundsOf minX minY maxX maxY least greatest minZ maxZ
 returns c =
@@ -42,9 +30,6 @@ returns c =
     let cs = commands (now (a .xs)) (now (a .ys)) (now (a .kinds)) in
     let e : cs ≡ [] = list-end cs 0 (omega (arith, c .before .before .before .before .list-len .ensures)) in
     rw (e, c .add .ensures, c .before .new .ensures, c .before .before .empty .ensures)
-
-empty-requires-2 : tie.Need-empty-requires-2 Inv-loop μ-loop
-empty-requires-2 c κs = search needs
 
 loop-holds : tie.Need-loop-holds Inv-loop μ-loop
 loop-holds c =
@@ -66,12 +51,6 @@ shared-slice-copy-out-new-2 c = omega (arith, inside (c .before), length-command
 
 mul-new-2 : tie.Need-mul-new-2 Inv-loop μ-loop
 mul-new-2 c = let h = shared-slice-copy-out-new-2 c in omega (arith, c .before .before .before .before .before .before .before .good)
-
-new-requires-2 : tie.Need-new-requires-2 Inv-loop μ-loop
-new-requires-2 c κs = search needs
-
-add-requires-2 : tie.Need-add-requires-2 Inv-loop μ-loop
-add-requires-2 c κs = search needs
 
 add-i : tie.Need-add-i Inv-loop μ-loop
 add-i c = omega arith
@@ -108,22 +87,6 @@ pub stream-bounds-spec : {M : Type 1} → statement M
 stream-bounds-spec =
     tie.close
     (tie.spec
-    Inv-loop
-    μ-loop
-    list-len-requires
-    empty-requires
-    new-requires
-    add-requires
-    returns
-    empty-requires-2
-    loop-holds
-    mul-new
-    shared-slice-copy-out-new
-    mul-new-2
-    shared-slice-copy-out-new-2
-    new-requires-2
-    add-requires-2
-    add-i
-    loop-less
-    loop-again
-    returns-2)
+    Inv-loop μ-loop (λ c κs. search needs) (λ c κs. search needs) (λ c κs. search needs) (λ c κs. search needs)
+    returns (λ c κs. search needs) loop-holds mul-new shared-slice-copy-out-new mul-new-2
+    shared-slice-copy-out-new-2 (λ c κs. search needs) (λ c κs. search needs) add-i loop-less loop-again returns-2)

@@ -28,9 +28,6 @@ reds c = times (omega (arith, c .pre .0)) (c .pre .1 .0)
 blues : (c : Start) → (767 - c .args .m) * (c .args .b * c .args .b) ≤ 49874175
 blues c = times (omega arith) (c .pre .1 .1 .1)
 
-add-result : tie.Need-add-result
-add-result c = search needs
-
 mul-result : tie.Need-mul-result
 mul-result c = record { fits = omega (arith, red c) }
 
@@ -45,9 +42,6 @@ mul-result-4 c = record { fits = omega (arith, green c) }
 
 add-result-2 : tie.Need-add-result-2
 add-result-2 c = record { fits = omega (arith, reds c, green c) }
-
-sub-result : tie.Need-sub-result
-sub-result c = search needs
 
 mul-result-5 : tie.Need-mul-result-5
 mul-result-5 c = record { fits = omega (arith, blue c) }
@@ -66,14 +60,5 @@ pub weighed-spec : {M : Type 1} → statement M
 weighed-spec =
     tie.close
     (tie.spec
-    add-result
-    mul-result
-    mul-result-2
-    mul-result-3
-    mul-result-4
-    add-result-2
-    sub-result
-    mul-result-5
-    mul-result-6
-    add-result-3
-    returns)
+    (λ c. search needs) mul-result mul-result-2 mul-result-3 mul-result-4 add-result-2 (λ c. search needs)
+    mul-result-5 mul-result-6 add-result-3 returns)

@@ -11,16 +11,10 @@ use Rattle.front.proofs.begins_pes.Tie as tie
 returns : tie.Need-returns
 returns c = sym (too-few (0x23 ∷ 0x50 ∷ 0x45 ∷ 0x53 ∷ []) (now (c .before .args .file)) (c .if1 .taken))
 
-shared-slice-read-if2 : tie.Need-shared-slice-read-if2
-shared-slice-read-if2 c = search needs
-
 returns-2 : tie.Need-returns-2
 returns-2 c =
     let s = now (c .before .before .before .args .file) in
     rw (by-bytes s 0x23 0x50 0x45 0x53 (c .before .before .if1 .left), ne-eqb _ _ (c .if2 .taken))
-
-shared-slice-read-if3 : tie.Need-shared-slice-read-if3
-shared-slice-read-if3 c = search needs
 
 returns-3 : tie.Need-returns-3
 returns-3 c =
@@ -31,9 +25,6 @@ returns-3 c =
       eq-eqb _ _ (e2 .if2 .left),
       ne-eqb _ _ (c .if3 .taken),
     )
-
-shared-slice-read-if4 : tie.Need-shared-slice-read-if4
-shared-slice-read-if4 c = search needs
 
 returns-4 : tie.Need-returns-4
 returns-4 c =
@@ -46,9 +37,6 @@ returns-4 c =
       eq-eqb _ _ (e3 .if3 .left),
       ne-eqb _ _ (c .if4 .taken),
     )
-
-shared-slice-read-result : tie.Need-shared-slice-read-result
-shared-slice-read-result c = search needs
 
 returns-5 : tie.Need-returns-5
 returns-5 c =
@@ -67,12 +55,5 @@ pub begins-pes-spec : {M : Type 1} → statement M
 begins-pes-spec =
     tie.close
     (tie.spec
-    returns
-    shared-slice-read-if2
-    returns-2
-    shared-slice-read-if3
-    returns-3
-    shared-slice-read-if4
-    returns-4
-    shared-slice-read-result
-    returns-5)
+    returns (λ c. search needs) returns-2 (λ c. search needs) returns-3 (λ c. search needs) returns-4
+    (λ c. search needs) returns-5)

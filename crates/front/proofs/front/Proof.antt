@@ -11,33 +11,6 @@ use Rattle.front.proofs.front.Tie as tie
 returns : tie.Need-returns
 returns c = let a = c .before .before .args in too-long (now (a .file)) (a .f) (c .if1 .taken)
 
-enum-told : tie.Need-enum-told
-enum-told c = search needs
-
-pes-front-requires : tie.Need-pes-front-requires
-pes-front-requires c κs = search needs
-
-enum-told-2 : tie.Need-enum-told-2
-enum-told-2 c = search needs
-
-pec-front-requires : tie.Need-pec-front-requires
-pec-front-requires c κs = search needs
-
-enum-told-3 : tie.Need-enum-told-3
-enum-told-3 c = search needs
-
-dst-front-requires : tie.Need-dst-front-requires
-dst-front-requires c κs = search needs
-
-enum-told-4 : tie.Need-enum-told-4
-enum-told-4 c = search needs
-
-enum-told-5 : tie.Need-enum-told-5
-enum-told-5 c = search needs
-
-jef-front-requires : tie.Need-jef-front-requires
-jef-front-requires c κs = search needs
-
 returns-2 : tie.Need-returns-2
 returns-2 c =
     let d = c .before .before .before in
@@ -72,18 +45,6 @@ pub front-spec : {M : Type 1} → statement M
 front-spec =
     tie.close
     (tie.spec
-    returns
-    enum-told
-    pes-front-requires
-    enum-told-2
-    pec-front-requires
-    enum-told-3
-    dst-front-requires
-    enum-told-4
-    enum-told-5
-    jef-front-requires
-    returns-2
-    returns-3
-    returns-4
-    returns-5
-    returns-6)
+    returns (λ c. search needs) (λ c κs. search needs) (λ c. search needs) (λ c κs. search needs)
+    (λ c. search needs) (λ c κs. search needs) (λ c. search needs) (λ c. search needs) (λ c κs. search needs)
+    returns-2 returns-3 returns-4 returns-5 returns-6)

@@ -8,15 +8,6 @@ use borrow.Author.Needs.{needs}
 use Rattle.front.proofs.jef_front.Statement.{statement}
 use Rattle.front.proofs.jef_front.Tie as tie
 
-i32le-requires : tie.Need-i32le-requires
-i32le-requires c κs = search needs
-
-enum-told : tie.Need-enum-told
-enum-told c = search needs
-
-enum-told-2 : tie.Need-enum-told-2
-enum-told-2 c = search needs
-
 returns : tie.Need-returns
 returns c =
     let s = now (c .before .before .before .before .args .file) in
@@ -28,4 +19,4 @@ returns-2 c =
     jef-whole s (leb-true _ _ (word-there 0 s (sym (c .before .before .i32le .ensures) ∙ c .enum-told .given .1) .0))
 
 pub jef-front-spec : {M : Type 1} → statement M
-jef-front-spec = tie.close (tie.spec i32le-requires enum-told enum-told-2 returns returns-2)
+jef-front-spec = tie.close (tie.spec (λ c κs. search needs) (λ c. search needs) (λ c. search needs) returns returns-2)

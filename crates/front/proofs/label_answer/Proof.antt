@@ -7,22 +7,10 @@ use borrow.Author.Needs.{needs}
 use Rattle.front.proofs.label_answer.Statement.{statement}
 use Rattle.front.proofs.label_answer.Tie as tie
 
-extension-of-requires : tie.Need-extension-of-requires
-extension-of-requires c κs = search needs
-
-enum-known-named : tie.Need-enum-known-named
-enum-known-named c = search needs
-
-enum-told : tie.Need-enum-told
-enum-told c = search needs
-
 returns : tie.Need-returns
 returns c =
     let a = c .before .before .before .before .before .args in
     unknown-label (extensionOf (now (a .ext))) (now (a .file)) (sym (c .before .before .extension-of .ensures) ∙ c .enum-told .given .1)
-
-label-answer-in-requires : tie.Need-label-answer-in-requires
-label-answer-in-requires c κs = search needs
 
 returns-2 : tie.Need-returns-2
 returns-2 c = rw (sym (c .before .before .before .before .extension-of .ensures) ∙ c .before .before .named .given .1) (c .label-answer-in .ensures)
@@ -31,9 +19,4 @@ pub label-answer-spec : {M : Type 1} → statement M
 label-answer-spec =
     tie.close
     (tie.spec
-    extension-of-requires
-    enum-known-named
-    enum-told
-    returns
-    label-answer-in-requires
-    returns-2)
+    (λ c κs. search needs) (λ c. search needs) (λ c. search needs) returns (λ c κs. search needs) returns-2)

@@ -7,15 +7,6 @@ use borrow.Author.Needs.{needs}
 use Rattle.front.proofs.label_at.Statement.{statement}
 use Rattle.front.proofs.label_at.Tie as tie
 
-label-answer-requires : tie.Need-label-answer-requires
-label-answer-requires c κs = search needs
-
-enum-known-answer : tie.Need-enum-known-answer
-enum-known-answer c = search needs
-
-enum-told : tie.Need-enum-told
-enum-told c = search needs
-
 returns : tie.Need-returns
 returns c =
     let a = c .before .before .before .before .before .args in
@@ -29,4 +20,4 @@ returns-2 c =
 
 pub label-at-spec : {M : Type 1} → statement M
 label-at-spec =
-    tie.close (tie.spec label-answer-requires enum-known-answer enum-told returns returns-2)
+    tie.close (tie.spec (λ c κs. search needs) (λ c. search needs) (λ c. search needs) returns returns-2)

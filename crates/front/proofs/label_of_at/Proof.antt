@@ -14,15 +14,6 @@ use borrow.Author.Needs.{needs}
 use Rattle.front.proofs.label_of_at.Statement.{statement}
 use Rattle.front.proofs.label_of_at.Tie as tie
 
-pec-label-at-requires : tie.Need-pec-label-at-requires
-pec-label-at-requires c κs = search needs
-
-enum-told : tie.Need-enum-told
-enum-told c = search needs
-
-dst-label-at-requires : tie.Need-dst-label-at-requires
-dst-label-at-requires c κs = search needs
-
 returns : tie.Need-returns
 unfolding labelOf pecLabel partStart
 returns c =
@@ -48,4 +39,4 @@ returns-3 c =
 pub label-of-at-spec : {M : Type 1} → statement M
 label-of-at-spec =
     tie.close
-    (tie.spec pec-label-at-requires enum-told dst-label-at-requires returns returns-2 returns-3)
+    (tie.spec (λ c κs. search needs) (λ c. search needs) (λ c κs. search needs) returns returns-2 returns-3)

@@ -7,15 +7,6 @@ use borrow.Author.Needs.{needs}
 use Rattle.front.proofs.pec_front.Statement.{statement}
 use Rattle.front.proofs.pec_front.Tie as tie
 
-byte-of-requires : tie.Need-byte-of-requires
-byte-of-requires c κs = search needs
-
-enum-told : tie.Need-enum-told
-enum-told c = search needs
-
-enum-told-2 : tie.Need-enum-told-2
-enum-told-2 c = search needs
-
 returns : tie.Need-returns
 returns c =
     let a = c .before .before .before .before .args in
@@ -29,4 +20,4 @@ returns-2 c =
     counted (a .start) s (omega (arith, byte-there _ _ s (sym (c .before .before .byte-of .ensures) ∙ c .enum-told .given .1)))
 
 pub pec-front-spec : {M : Type 1} → statement M
-pec-front-spec = tie.close (tie.spec byte-of-requires enum-told enum-told-2 returns returns-2)
+pec-front-spec = tie.close (tie.spec (λ c κs. search needs) (λ c. search needs) (λ c. search needs) returns returns-2)

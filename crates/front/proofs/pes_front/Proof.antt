@@ -14,21 +14,9 @@ use borrow.Author.Needs.{needs}
 use Rattle.front.proofs.pes_front.Statement.{statement}
 use Rattle.front.proofs.pes_front.Tie as tie
 
-begins-pes-requires : tie.Need-begins-pes-requires
-begins-pes-requires c κs = search needs
-
 returns : tie.Need-returns
 returns c =
     pes-unlike (now (c .before .before .before .args .file)) (sym (c .before .begins-pes .ensures) ∙ not-true _ (c .if1 .taken))
-
-i32le-requires : tie.Need-i32le-requires
-i32le-requires c κs = search needs
-
-enum-known-word : tie.Need-enum-known-word
-enum-known-word c = search needs
-
-enum-told : tie.Need-enum-told
-enum-told c = search needs
 
 returns-2 : tie.Need-returns-2
 returns-2 c =
@@ -49,9 +37,6 @@ returns-3 c =
 cast-pec-front : tie.Need-cast-pec-front
 cast-pec-front c = let h = fit w32 (c .before .before .word .given .0 .0) (c .before .known-told .given .0 .1) in omega (ints, seen h)
 
-pec-front-requires : tie.Need-pec-front-requires
-pec-front-requires c κs = search needs
-
 returns-4 : tie.Need-returns-4
 returns-4 c =
     let e = c .before in
@@ -68,13 +53,5 @@ pub pes-front-spec : {M : Type 1} → statement M
 pes-front-spec =
     tie.close
     (tie.spec
-    begins-pes-requires
-    returns
-    i32le-requires
-    enum-known-word
-    enum-told
-    returns-2
-    returns-3
-    cast-pec-front
-    pec-front-requires
-    returns-4)
+    (λ c κs. search needs) returns (λ c κs. search needs) (λ c. search needs) (λ c. search needs) returns-2
+    returns-3 cast-pec-front (λ c κs. search needs) returns-4)

@@ -6,18 +6,6 @@ use borrow.Author.Needs.{needs}
 use Rattle.geom.proofs.widened.Statement.{statement}
 use Rattle.geom.proofs.widened.Tie as tie
 
-min-requires : tie.Need-min-requires
-min-requires c κs = search needs
-
-min-requires-2 : tie.Need-min-requires-2
-min-requires-2 c κs = search needs
-
-max-requires : tie.Need-max-requires
-max-requires c κs = search needs
-
-max-requires-2 : tie.Need-max-requires-2
-max-requires-2 c κs = search needs
-
 returns : tie.Need-returns
 returns c =
     let a = c .before .before .before in
@@ -37,4 +25,4 @@ returns c =
     (simp (toZ-ofZ (f .x0), toZ-ofZ (f .y0), toZ-ofZ (f .x1), toZ-ofZ (f .y1), toZ-ofZ (f .x), toZ-ofZ (f .y)))
 
 pub widened-spec : {M : Type 1} → statement M
-widened-spec = tie.close (tie.spec min-requires min-requires-2 max-requires max-requires-2 returns)
+widened-spec = tie.close (tie.spec (λ c κs. search needs) (λ c κs. search needs) (λ c κs. search needs) (λ c κs. search needs) returns)

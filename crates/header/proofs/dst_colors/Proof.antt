@@ -14,16 +14,10 @@ use borrow.Author.Needs.{needs}
 use Rattle.header.proofs.dst_colors.Statement.{statement}
 use Rattle.header.proofs.dst_colors.Tie as tie
 
-part-requires : tie.Need-part-requires
-part-requires c κs = search needs
-
 line-colors-requires : tie.Need-line-colors-requires
 line-colors-requires c κs =
     let a = c .before .before .before .before .args in
     (omega (arith, length-take 512 (now (a .file)), ap length (c .before .part .ensures)), c .before .before .before .before .pre)
-
-same-length : tie.Need-same-length
-same-length c = search needs
 
 returns : tie.Need-returns
 returns c =
@@ -37,4 +31,4 @@ returns c =
     (l .ensures)
 
 pub dst-colors-spec : {M : Type 1} → statement M
-dst-colors-spec = tie.close (tie.spec part-requires line-colors-requires same-length returns)
+dst-colors-spec = tie.close (tie.spec (λ c κs. search needs) line-colors-requires (λ c. search needs) returns)

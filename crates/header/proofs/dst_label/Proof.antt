@@ -4,14 +4,8 @@ use borrow.Author.Needs.{needs}
 use Rattle.header.proofs.dst_label.Statement.{statement}
 use Rattle.header.proofs.dst_label.Tie as tie
 
-dst-label-at-requires : tie.Need-dst-label-at-requires
-dst-label-at-requires c κs = search needs
-
-part-requires : tie.Need-part-requires
-part-requires c κs = search needs
-
 returns : tie.Need-returns
 returns c = c .part .ensures ∙ c .before .dst-label-at .ensures .text
 
 pub dst-label-spec : {M : Type 1} → statement M
-dst-label-spec = tie.close (tie.spec dst-label-at-requires part-requires returns)
+dst-label-spec = tie.close (tie.spec (λ c κs. search needs) (λ c κs. search needs) returns)

@@ -12,9 +12,6 @@ use borrow.Author.Needs.{needs}
 use Rattle.header.proofs.dst_label_at.Statement.{statement}
 use Rattle.header.proofs.dst_label_at.Tie as tie
 
-part-requires : tie.Need-part-requires
-part-requires c κs = search needs
-
 last-label-at-requires : tie.Need-last-label-at-requires
 last-label-at-requires c κs = omega (arith, length-take 512 (now (c .before .before .args .file)), ap length (c .part .ensures))
 
@@ -31,4 +28,4 @@ returns c =
 
 pub dst-label-at-spec : {M : Type 1} → statement M
 dst-label-at-spec =
-    tie.close (tie.spec part-requires last-label-at-requires trimmed-at-requires returns)
+    tie.close (tie.spec (λ c κs. search needs) last-label-at-requires trimmed-at-requires returns)

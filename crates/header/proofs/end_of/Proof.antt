@@ -57,14 +57,5 @@ pub end-of-spec : {M : Type 1} → statement M
 end-of-spec =
     tie.close
     (tie.spec
-    Inv-loop
-    μ-loop
-    loop-holds
-    sub-is-blank
-    shared-slice-read-is-blank
-    is-blank-requires
-    returns
-    sub-e
-    loop-less
-    loop-again
-    returns-2)
+    Inv-loop μ-loop loop-holds sub-is-blank shared-slice-read-is-blank is-blank-requires returns sub-e loop-less
+    loop-again returns-2)

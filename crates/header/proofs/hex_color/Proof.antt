@@ -17,18 +17,9 @@ returns-3 : tie.Need-returns-3
 unfolding hexColor
 returns-3 c = rw (lt-ltb _ _ (c .before .before .if1 .left), lt-ltb _ _ (c .before .if2 .left), le-ltb _ _ (c .if3 .taken))
 
-cast-t5 : tie.Need-cast-t5
-cast-t5 c = search needs
-
-cast-t6 : tie.Need-cast-t6
-cast-t6 c = search needs
-
-cast-t7 : tie.Need-cast-t7
-cast-t7 c = search needs
-
 returns-4 : tie.Need-returns-4
 unfolding hexColor
 returns-4 c = rw (lt-ltb _ _ (c .before .before .if1 .left), lt-ltb _ _ (c .before .if2 .left), lt-ltb _ _ (c .if3 .left))
 
 pub hex-color-spec : {M : Type 1} → statement M
-hex-color-spec = tie.close (tie.spec returns returns-2 returns-3 cast-t5 cast-t6 cast-t7 returns-4)
+hex-color-spec = tie.close (tie.spec returns returns-2 returns-3 (λ c. search needs) (λ c. search needs) (λ c. search needs) returns-4)

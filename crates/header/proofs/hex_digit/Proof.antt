@@ -14,16 +14,10 @@ use Rattle.header.proofs.hex_digit.Tie as tie
 inside : (b lo hi : ℕ) → (leb lo b && leb b hi) ≡ true → (lo ≤ b) × (b ≤ hi)
 inside b lo hi e = (omega (arith, leb-true lo b (and-left (leb lo b) (leb b hi) e)), omega (arith, leb-true b hi (and-right (leb lo b) (leb b hi) e)))
 
-is-from-to-requires : tie.Need-is-from-to-requires
-is-from-to-requires c κs = search needs
-
 sub-result : tie.Need-sub-result
 sub-result c =
     let a = c .before .before .args in
     omega (arith, inside (a .b) 0x30 0x39 (sym (c .before .is-from-to .ensures) ∙ c .if1 .taken))
-
-cast-result : tie.Need-cast-result
-cast-result c = search needs
 
 returns : tie.Need-returns
 unfolding hexDigit
@@ -32,16 +26,10 @@ returns c =
     let h = inside (a .b) 0x30 0x39 (sym (c .before .is-from-to .ensures) ∙ c .if1 .taken) in
     (rw (sym (c .before .is-from-to .ensures) ∙ c .if1 .taken), omega arith)
 
-is-from-to-requires-2 : tie.Need-is-from-to-requires-2
-is-from-to-requires-2 c κs = search needs
-
 sub-result-2 : tie.Need-sub-result-2
 sub-result-2 c =
     let a = c .before .before .before .before .args in
     omega (arith, inside (a .b) 0x41 0x46 (sym (c .before .is-from-to2 .ensures) ∙ c .if2 .taken))
-
-cast-result-2 : tie.Need-cast-result-2
-cast-result-2 c = search needs
 
 returns-2 : tie.Need-returns-2
 unfolding hexDigit
@@ -55,16 +43,10 @@ returns-2 c =
       omega arith,
     )
 
-is-from-to-requires-3 : tie.Need-is-from-to-requires-3
-is-from-to-requires-3 c κs = search needs
-
 sub-result-3 : tie.Need-sub-result-3
 sub-result-3 c =
     let a = c .before .before .before .before .before .before .args in
     omega (arith, inside (a .b) 0x61 0x66 (sym (c .before .is-from-to3 .ensures) ∙ c .if3 .taken))
-
-cast-result-3 : tie.Need-cast-result-3
-cast-result-3 c = search needs
 
 returns-3 : tie.Need-returns-3
 unfolding hexDigit
@@ -94,16 +76,5 @@ pub hex-digit-spec : {M : Type 1} → statement M
 hex-digit-spec =
     tie.close
     (tie.spec
-    is-from-to-requires
-    sub-result
-    cast-result
-    returns
-    is-from-to-requires-2
-    sub-result-2
-    cast-result-2
-    returns-2
-    is-from-to-requires-3
-    sub-result-3
-    cast-result-3
-    returns-3
-    returns-4)
+    (λ c κs. search needs) sub-result (λ c. search needs) returns (λ c κs. search needs) sub-result-2
+    (λ c. search needs) returns-2 (λ c κs. search needs) sub-result-3 (λ c. search needs) returns-3 returns-4)

@@ -5,9 +5,6 @@ use borrow.Author.Needs.{needs}
 use Rattle.header.proofs.hex_pair.Statement.{statement}
 use Rattle.header.proofs.hex_pair.Tie as tie
 
-hex-digit-requires : tie.Need-hex-digit-requires
-hex-digit-requires c κs = search needs
-
 returns : tie.Need-returns
 unfolding hexPair
 returns c = rw (← c .before .hex-digit .ensures .0, le-ltb _ _ (c .if1 .taken))
@@ -15,9 +12,6 @@ returns c = rw (← c .before .hex-digit .ensures .0, le-ltb _ _ (c .if1 .taken)
 returns-2 : tie.Need-returns-2
 unfolding hexPair
 returns-2 c = rw (← c .before .before .hex-digit .ensures .0, lt-ltb _ _ (c .before .if1 .left), eq-eqb _ _ (c .if2 .taken))
-
-hex-digit-requires-2 : tie.Need-hex-digit-requires-2
-hex-digit-requires-2 c κs = search needs
 
 returns-3 : tie.Need-returns-3
 unfolding hexPair
@@ -29,12 +23,6 @@ returns-3 c =
       ← c .before .hex-digit2 .ensures .0,
       le-ltb _ _ (c .if3 .taken),
     )
-
-mul-result : tie.Need-mul-result
-mul-result c = search needs
-
-add-result : tie.Need-add-result
-add-result c = search needs
 
 returns-4 : tie.Need-returns-4
 unfolding hexPair
@@ -51,11 +39,5 @@ pub hex-pair-spec : {M : Type 1} → statement M
 hex-pair-spec =
     tie.close
     (tie.spec
-    hex-digit-requires
-    returns
-    returns-2
-    hex-digit-requires-2
-    returns-3
-    mul-result
-    add-result
-    returns-4)
+    (λ c κs. search needs) returns returns-2 (λ c κs. search needs) returns-3 (λ c. search needs)
+    (λ c. search needs) returns-4)

@@ -20,40 +20,10 @@ returns c =
     let a = c .before .before .args in
     sym (pick-gt (a .at + 4) (length (now (a .file))) (Number (wordAt (a .at) (now (a .file)))) Missing (omega arith))
 
-sub-if2 : tie.Need-sub-if2
-sub-if2 c = search needs
-
 returns-2 : tie.Need-returns-2
 returns-2 c =
     let a = c .before .before .before .args in
     sym (pick-gt (a .at + 4) (length (now (a .file))) (Number (wordAt (a .at) (now (a .file)))) Missing (omega arith))
-
-shared-slice-read-of-bytes : tie.Need-shared-slice-read-of-bytes
-shared-slice-read-of-bytes c = search needs
-
-add-of-bytes : tie.Need-add-of-bytes
-add-of-bytes c = search needs
-
-shared-slice-read-of-bytes-2 : tie.Need-shared-slice-read-of-bytes-2
-shared-slice-read-of-bytes-2 c = search needs
-
-add-of-bytes-2 : tie.Need-add-of-bytes-2
-add-of-bytes-2 c = search needs
-
-shared-slice-read-of-bytes-3 : tie.Need-shared-slice-read-of-bytes-3
-shared-slice-read-of-bytes-3 c = search needs
-
-add-of-bytes-3 : tie.Need-add-of-bytes-3
-add-of-bytes-3 c = search needs
-
-shared-slice-read-of-bytes-4 : tie.Need-shared-slice-read-of-bytes-4
-shared-slice-read-of-bytes-4 c = search needs
-
-of-bytes-requires : tie.Need-of-bytes-requires
-of-bytes-requires c κs = search needs
-
-signed32-requires : tie.Need-signed32-requires
-signed32-requires c κs = search needs
 
 returns-3 : tie.Need-returns-3
 unfolding wordAt
@@ -68,16 +38,6 @@ pub i32le-spec : {M : Type 1} → statement M
 i32le-spec =
     tie.close
     (tie.spec
-    returns
-    sub-if2
-    returns-2
-    shared-slice-read-of-bytes
-    add-of-bytes
-    shared-slice-read-of-bytes-2
-    add-of-bytes-2
-    shared-slice-read-of-bytes-3
-    add-of-bytes-3
-    shared-slice-read-of-bytes-4
-    of-bytes-requires
-    signed32-requires
-    returns-3)
+    returns (λ c. search needs) returns-2 (λ c. search needs) (λ c. search needs) (λ c. search needs)
+    (λ c. search needs) (λ c. search needs) (λ c. search needs) (λ c. search needs) (λ c κs. search needs)
+    (λ c κs. search needs) returns-3)

@@ -9,16 +9,10 @@ use Rattle.header.proofs.is_begun.Tie as tie
 returns : tie.Need-returns
 returns c = let a = c .before .args in not-begun (now (a .s)) (a .a) (a .b) (a .c) (c .if1 .taken)
 
-shared-slice-read-if2 : tie.Need-shared-slice-read-if2
-shared-slice-read-if2 c = search needs
-
 returns-2 : tie.Need-returns-2
 returns-2 c =
     let a = c .before .before .before .args in
     rw (begun (now (a .s)) (a .a) (a .b) (a .c) (c .before .before .if1 .left), ne-eqb _ _ (c .if2 .taken))
-
-shared-slice-read-if3 : tie.Need-shared-slice-read-if3
-shared-slice-read-if3 c = search needs
 
 returns-3 : tie.Need-returns-3
 returns-3 c =
@@ -28,9 +22,6 @@ returns-3 c =
       eq-eqb _ _ (c .before .before .if2 .left),
       ne-eqb _ _ (c .if3 .taken),
     )
-
-shared-slice-read-result : tie.Need-shared-slice-read-result
-shared-slice-read-result c = search needs
 
 returns-4 : tie.Need-returns-4
 returns-4 c =
@@ -45,10 +36,4 @@ pub is-begun-spec : {M : Type 1} → statement M
 is-begun-spec =
     tie.close
     (tie.spec
-    returns
-    shared-slice-read-if2
-    returns-2
-    shared-slice-read-if3
-    returns-3
-    shared-slice-read-result
-    returns-4)
+    returns (λ c. search needs) returns-2 (λ c. search needs) returns-3 (λ c. search needs) returns-4)

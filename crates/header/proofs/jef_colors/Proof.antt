@@ -93,19 +93,5 @@ pub jef-colors-spec : {M : Type 1} → statement M
 jef-colors-spec =
     tie.close
     (tie.spec
-    Inv-loop
-    μ-loop
-    jef-count-requires
-    loop-holds
-    mul-if1
-    add-if1
-    same-length
-    returns
-    jef-number-requires
-    mul-colors
-    slice-write-colors
-    add-k
-    loop-less
-    loop-again
-    same-length-2
-    returns-2)
+    Inv-loop μ-loop jef-count-requires loop-holds mul-if1 add-if1 same-length returns jef-number-requires mul-colors
+    slice-write-colors add-k loop-less loop-again same-length-2 returns-2)

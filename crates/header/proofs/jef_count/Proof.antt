@@ -14,15 +14,6 @@ use borrow.Author.Needs.{needs}
 use Rattle.header.proofs.jef_count.Statement.{statement}
 use Rattle.header.proofs.jef_count.Tie as tie
 
-i32le-requires : tie.Need-i32le-requires
-i32le-requires c κs = search needs
-
-enum-known-w : tie.Need-enum-known-w
-enum-known-w c = search needs
-
-enum-told : tie.Need-enum-told
-enum-told c = search needs
-
 returns : tie.Need-returns
 unfolding jefCount
 returns c =
@@ -36,9 +27,6 @@ returns-2 c =
     let t = word-there 24 s (sym (c .before .before .before .before .i32le .ensures) ∙ c .before .before .w .given .1) in
     let r : toZ w32 (ofZ w32 z) ≡ z = ret w32 z (c .before .known-told .given .0 .1) in
     jef-below s (t .0) (t .1) (subst (λ (y : ℤ). ltZ y (pos 0) ≡ true) r (c .if1 .taken))
-
-magnitude-requires : tie.Need-magnitude-requires
-magnitude-requires c κs = search needs
 
 returns-3 : tie.Need-returns-3
 returns-3 c =
@@ -60,11 +48,5 @@ pub jef-count-spec : {M : Type 1} → statement M
 jef-count-spec =
     tie.close
     (tie.spec
-    i32le-requires
-    enum-known-w
-    enum-told
-    returns
-    returns-2
-    magnitude-requires
-    returns-3
-    returns-4)
+    (λ c κs. search needs) (λ c. search needs) (λ c. search needs) returns returns-2 (λ c κs. search needs)
+    returns-3 returns-4)

@@ -18,35 +18,11 @@ use borrow.Author.Needs.{needs}
 use Rattle.header.proofs.jef_number.Statement.{statement}
 use Rattle.header.proofs.jef_number.Tie as tie
 
-mul-i32le : tie.Need-mul-i32le
-mul-i32le c = search needs
-
-add-i32le : tie.Need-add-i32le
-add-i32le c = search needs
-
-i32le-requires : tie.Need-i32le-requires
-i32le-requires c κs = search needs
-
-enum-known-w : tie.Need-enum-known-w
-enum-known-w c = search needs
-
-enum-told : tie.Need-enum-told
-enum-told c = search needs
-
 returns : tie.Need-returns
 returns c =
     let a = c .before .before .before .before .args in
     let m : ℕ = 116 + 4 * a .k in
     clash (leb (m + 4) (length (now (a .file)))) (le-leb (m + 4) (length (now (a .file))) (omega (arith, c .before .before .before .before .pre .1))) (word-missing m (now (a .file)) (sym (c .before .before .i32le .ensures) ∙ c .enum-told .given .1))
-
-magnitude-requires : tie.Need-magnitude-requires
-magnitude-requires c κs = search needs
-
-jef-thread-requires : tie.Need-jef-thread-requires
-jef-thread-requires c κs = search needs
-
-number-of-requires : tie.Need-number-of-requires
-number-of-requires c κs = search needs
 
 returns-2 : tie.Need-returns-2
 returns-2 c =
@@ -63,13 +39,5 @@ pub jef-number-spec : {M : Type 1} → statement M
 jef-number-spec =
     tie.close
     (tie.spec
-    mul-i32le
-    add-i32le
-    i32le-requires
-    enum-known-w
-    enum-told
-    returns
-    magnitude-requires
-    jef-thread-requires
-    number-of-requires
-    returns-2)
+    (λ c. search needs) (λ c. search needs) (λ c κs. search needs) (λ c. search needs) (λ c. search needs) returns
+    (λ c κs. search needs) (λ c κs. search needs) (λ c κs. search needs) returns-2)

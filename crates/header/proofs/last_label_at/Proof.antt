@@ -32,12 +32,6 @@ line-end-requires c κs = omega arith
 sub-is-begun : tie.Need-sub-is-begun Inv-loop μ-loop
 sub-is-begun c = omega arith
 
-part-is-begun-start : tie.Need-part-is-begun-start Inv-loop μ-loop
-part-is-begun-start c = search needs
-
-part-is-begun-end : tie.Need-part-is-begun-end Inv-loop μ-loop
-part-is-begun-end c = search needs
-
 is-begun-requires : tie.Need-is-begun-requires Inv-loop μ-loop
 is-begun-requires c κs = tt
 
@@ -81,17 +75,5 @@ pub last-label-at-spec : {M : Type 1} → statement M
 last-label-at-spec =
     tie.close
     (tie.spec
-    Inv-loop
-    μ-loop
-    loop-holds
-    line-end-requires
-    sub-is-begun
-    part-is-begun-start
-    part-is-begun-end
-    is-begun-requires
-    add-from
-    add-at
-    loop-less
-    loop-again
-    sub-t12
-    returns)
+    Inv-loop μ-loop loop-holds line-end-requires sub-is-begun (λ c. search needs) (λ c. search needs)
+    is-begun-requires add-from add-at loop-less loop-again sub-t12 returns)

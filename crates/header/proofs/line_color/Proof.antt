@@ -12,15 +12,6 @@ use borrow.Author.Needs.{needs}
 use Rattle.header.proofs.line_color.Statement.{statement}
 use Rattle.header.proofs.line_color.Tie as tie
 
-is-begun-requires : tie.Need-is-begun-requires
-is-begun-requires c κs = search needs
-
-part-requires : tie.Need-part-requires
-part-requires c κs = search needs
-
-text-color-requires : tie.Need-text-color-requires
-text-color-requires c κs = search needs
-
 returns : tie.Need-returns
 unfolding lineColor
 returns c =
@@ -34,4 +25,4 @@ returns-2 c = rw (sym (c .before .is-begun .ensures) ∙ c .if1 .left)
 
 pub line-color-spec : {M : Type 1} → statement M
 line-color-spec =
-    tie.close (tie.spec is-begun-requires part-requires text-color-requires returns returns-2)
+    tie.close (tie.spec (λ c κs. search needs) (λ c κs. search needs) (λ c κs. search needs) returns returns-2)

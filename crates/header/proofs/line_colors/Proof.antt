@@ -31,12 +31,6 @@ line-end-requires c κs = omega arith
 sub-line-color : tie.Need-sub-line-color Inv-loop μ-loop
 sub-line-color c = omega arith
 
-part-line-color-start : tie.Need-part-line-color-start Inv-loop μ-loop
-part-line-color-start c = search needs
-
-part-line-color-end : tie.Need-part-line-color-end Inv-loop μ-loop
-part-line-color-end c = search needs
-
 line-color-requires : tie.Need-line-color-requires Inv-loop μ-loop
 line-color-requires c κs = tt
 
@@ -82,17 +76,5 @@ pub line-colors-spec : {M : Type 1} → statement M
 line-colors-spec =
     tie.close
     (tie.spec
-    Inv-loop
-    μ-loop
-    loop-holds
-    line-end-requires
-    sub-line-color
-    part-line-color-start
-    part-line-color-end
-    line-color-requires
-    put-color-requires
-    add-at
-    loop-less
-    loop-again
-    same-length
-    returns)
+    Inv-loop μ-loop loop-holds line-end-requires sub-line-color (λ c. search needs) (λ c. search needs)
+    line-color-requires put-color-requires add-at loop-less loop-again same-length returns)

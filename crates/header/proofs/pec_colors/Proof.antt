@@ -81,17 +81,5 @@ pub pec-colors-spec : {M : Type 1} → statement M
 pec-colors-spec =
     tie.close
     (tie.spec
-    Inv-loop
-    μ-loop
-    byte-at-requires
-    cast-n
-    add-n
-    loop-holds
-    pec-number-requires
-    mul-colors
-    slice-write-colors
-    add-k
-    loop-less
-    loop-again
-    same-length
-    returns)
+    Inv-loop μ-loop byte-at-requires cast-n add-n loop-holds pec-number-requires mul-colors slice-write-colors add-k
+    loop-less loop-again same-length returns)

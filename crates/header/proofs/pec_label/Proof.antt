@@ -4,14 +4,8 @@ use borrow.Author.Needs.{needs}
 use Rattle.header.proofs.pec_label.Statement.{statement}
 use Rattle.header.proofs.pec_label.Tie as tie
 
-pec-label-at-requires : tie.Need-pec-label-at-requires
-pec-label-at-requires c κs = search needs
-
-part-requires : tie.Need-part-requires
-part-requires c κs = search needs
-
 returns : tie.Need-returns
 returns c = c .part .ensures ∙ c .before .pec-label-at .ensures .text
 
 pub pec-label-spec : {M : Type 1} → statement M
-pec-label-spec = tie.close (tie.spec pec-label-at-requires part-requires returns)
+pec-label-spec = tie.close (tie.spec (λ c κs. search needs) (λ c κs. search needs) returns)

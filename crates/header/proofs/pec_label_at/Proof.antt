@@ -9,18 +9,6 @@ use borrow.Author.Needs.{needs}
 use Rattle.header.proofs.pec_label_at.Statement.{statement}
 use Rattle.header.proofs.pec_label_at.Tie as tie
 
-ahead-requires : tie.Need-ahead-requires
-ahead-requires c κs = search needs
-
-ahead-requires-2 : tie.Need-ahead-requires-2
-ahead-requires-2 c κs = search needs
-
-sub-trimmed-at : tie.Need-sub-trimmed-at
-sub-trimmed-at c = search needs
-
-trimmed-at-requires : tie.Need-trimmed-at-requires
-trimmed-at-requires c κs = search needs
-
 returns : tie.Need-returns
 returns c =
     let a = c .before .before .before .before .args in
@@ -33,4 +21,6 @@ returns c =
 
 pub pec-label-at-spec : {M : Type 1} → statement M
 pec-label-at-spec =
-    tie.close (tie.spec ahead-requires ahead-requires-2 sub-trimmed-at trimmed-at-requires returns)
+    tie.close
+    (tie.spec
+    (λ c κs. search needs) (λ c κs. search needs) (λ c. search needs) (λ c κs. search needs) returns)

@@ -10,21 +10,6 @@ use borrow.Author.Needs.{needs}
 use Rattle.header.proofs.pec_number.Statement.{statement}
 use Rattle.header.proofs.pec_number.Tie as tie
 
-add-byte-at : tie.Need-add-byte-at
-add-byte-at c = search needs
-
-byte-at-requires : tie.Need-byte-at-requires
-byte-at-requires c κs = search needs
-
-cast-pec-thread : tie.Need-cast-pec-thread
-cast-pec-thread c = search needs
-
-pec-thread-requires : tie.Need-pec-thread-requires
-pec-thread-requires c κs = search needs
-
-number-of-requires : tie.Need-number-of-requires
-number-of-requires c κs = search needs
-
 returns : tie.Need-returns
 returns c =
     let a = c .before .before .before .before .args in
@@ -35,9 +20,5 @@ pub pec-number-spec : {M : Type 1} → statement M
 pec-number-spec =
     tie.close
     (tie.spec
-    add-byte-at
-    byte-at-requires
-    cast-pec-thread
-    pec-thread-requires
-    number-of-requires
+    (λ c. search needs) (λ c κs. search needs) (λ c. search needs) (λ c κs. search needs) (λ c κs. search needs)
     returns)

@@ -16,17 +16,8 @@ use Rattle.header.proofs.signed32.Tie as tie
 high : (n m : ℕ) → n + m ≡ 4294967295 → pos n -ℤ pos 4294967296 ≡ (pos 0 -ℤ pos m) -ℤ pos 1
 high n m e = eq-sub (pos n -ℤ pos 4294967296) (pos 0 -ℤ pos m) (pos 1) (omega (arith, sub-law (pos n) (pos 4294967296), sub-law (pos 0) (pos m)))
 
-cast-result : tie.Need-cast-result
-cast-result c = search needs
-
 returns : tie.Need-returns
 returns c = dec-low w32 31 (c .before .args .n) (omega arith) (omega arith)
-
-sub-result : tie.Need-sub-result
-sub-result c = search needs
-
-cast-result-2 : tie.Need-cast-result-2
-cast-result-2 c = search needs
 
 sub-result-2 : tie.Need-sub-result-2
 sub-result-2 c =
@@ -53,4 +44,4 @@ returns-2 c =
 pub signed32-spec : {M : Type 1} → statement M
 signed32-spec =
     tie.close
-    (tie.spec cast-result returns sub-result cast-result-2 sub-result-2 sub-result-3 returns-2)
+    (tie.spec (λ c. search needs) returns (λ c. search needs) (λ c. search needs) sub-result-2 sub-result-3 returns-2)

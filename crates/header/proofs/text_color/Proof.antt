@@ -12,31 +12,10 @@ use borrow.Author.Needs.{needs}
 use Rattle.header.proofs.text_color.Statement.{statement}
 use Rattle.header.proofs.text_color.Tie as tie
 
-comma-of-requires : tie.Need-comma-of-requires
-comma-of-requires c κs = search needs
-
 slice-aggregate-trimmed : tie.Need-slice-aggregate-trimmed
 slice-aggregate-trimmed c =
     let a = c .before .before .before .args in
     sym (length-take-le (c .before .comma-of .result) (now (a .s)) (c .before .comma-of .ensures .0))
-
-trimmed-requires : tie.Need-trimmed-requires
-trimmed-requires c κs = search needs
-
-hashes-of-requires : tie.Need-hashes-of-requires
-hashes-of-requires c κs = search needs
-
-sub-six-digits : tie.Need-sub-six-digits
-sub-six-digits c = search needs
-
-part-six-digits-start : tie.Need-part-six-digits-start
-part-six-digits-start c = search needs
-
-part-six-digits-end : tie.Need-part-six-digits-end
-part-six-digits-end c = search needs
-
-six-digits-requires : tie.Need-six-digits-requires
-six-digits-requires c κs = search needs
 
 returns : tie.Need-returns
 returns c =
@@ -52,12 +31,5 @@ pub text-color-spec : {M : Type 1} → statement M
 text-color-spec =
     tie.close
     (tie.spec
-    comma-of-requires
-    slice-aggregate-trimmed
-    trimmed-requires
-    hashes-of-requires
-    sub-six-digits
-    part-six-digits-start
-    part-six-digits-end
-    six-digits-requires
-    returns)
+    (λ c κs. search needs) slice-aggregate-trimmed (λ c κs. search needs) (λ c κs. search needs) (λ c. search needs)
+    (λ c. search needs) (λ c. search needs) (λ c κs. search needs) returns)

@@ -7,16 +7,10 @@ use borrow.Author.Needs.{needs}
 use Rattle.header.proofs.trimmed.Statement.{statement}
 use Rattle.header.proofs.trimmed.Tie as tie
 
-trimmed-at-requires : tie.Need-trimmed-at-requires
-trimmed-at-requires c κs = search needs
-
-part-requires : tie.Need-part-requires
-part-requires c κs = search needs
-
 returns : tie.Need-returns
 returns c =
     c .part .ensures ∙ c .before .trimmed-at .ensures .text
     ∙ ap trimmed (take-length (now (c .before .before .before .args .s)))
 
 pub trimmed-spec : {M : Type 1} → statement M
-trimmed-spec = tie.close (tie.spec trimmed-at-requires part-requires returns)
+trimmed-spec = tie.close (tie.spec (λ c κs. search needs) (λ c κs. search needs) returns)

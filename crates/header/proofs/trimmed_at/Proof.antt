@@ -5,27 +5,6 @@ use borrow.Author.Needs.{needs}
 use Rattle.header.proofs.trimmed_at.Statement.{statement}
 use Rattle.header.proofs.trimmed_at.Tie as tie
 
-part-requires : tie.Need-part-requires
-part-requires c κs = search needs
-
-start-of-requires : tie.Need-start-of-requires
-start-of-requires c κs = search needs
-
-sub-end-of : tie.Need-sub-end-of
-sub-end-of c = search needs
-
-part-end-of-start : tie.Need-part-end-of-start
-part-end-of-start c = search needs
-
-part-end-of-end : tie.Need-part-end-of-end
-part-end-of-end c = search needs
-
-end-of-requires : tie.Need-end-of-requires
-end-of-requires c κs = search needs
-
-add-t8 : tie.Need-add-t8
-add-t8 c = search needs
-
 returns : tie.Need-returns
 returns c =
     let a = c .before .before .before .before .before .args in
@@ -38,11 +17,5 @@ pub trimmed-at-spec : {M : Type 1} → statement M
 trimmed-at-spec =
     tie.close
     (tie.spec
-    part-requires
-    start-of-requires
-    sub-end-of
-    part-end-of-start
-    part-end-of-end
-    end-of-requires
-    add-t8
-    returns)
+    (λ c κs. search needs) (λ c κs. search needs) (λ c. search needs) (λ c. search needs) (λ c. search needs)
+    (λ c κs. search needs) (λ c. search needs) returns)

@@ -5,15 +5,9 @@ use borrow.Author.Needs.{needs}
 use Rattle.jef_data.proofs.jef_thread.Statement.{statement}
 use Rattle.jef_data.proofs.jef_thread.Tie as tie
 
-mul-result : tie.Need-mul-result
-mul-result c = search needs
-
-array-copy-out-result : tie.Need-array-copy-out-result
-array-copy-out-result c = search needs
-
 returns : tie.Need-returns
 unfolding jefChart
 returns c = refl
 
 pub jef-thread-spec : {M : Type 1} → statement M
-jef-thread-spec = tie.close (tie.spec mul-result array-copy-out-result returns)
+jef-thread-spec = tie.close (tie.spec (λ c. search needs) (λ c. search needs) returns)

@@ -6,15 +6,6 @@ use Rattle.palette.proofs.Giving.{found-inside}
 use Rattle.palette.proofs.entry_in.Statement.{statement}
 use Rattle.palette.proofs.entry_in.Tie as tie
 
-nearest-index-requires : tie.Need-nearest-index-requires
-nearest-index-requires c κs = search needs
-
-enum-known-found : tie.Need-enum-known-found
-enum-known-found c = search needs
-
-enum-told : tie.Need-enum-told
-enum-told c = search needs
-
 returns : tie.Need-returns
 unfolding foundOr
 returns c = rw (← c .before .before .nearest-index .ensures, c .enum-told .given .1)
@@ -31,4 +22,4 @@ returns-2 c = rw (← c .before .before .before .nearest-index .ensures, c .befo
 pub entry-in-spec : {M : Type 1} → statement M
 entry-in-spec =
     tie.close
-    (tie.spec nearest-index-requires enum-known-found enum-told returns cast-result returns-2)
+    (tie.spec (λ c κs. search needs) (λ c. search needs) (λ c. search needs) returns cast-result returns-2)

@@ -70,13 +70,4 @@ pub is-seen-spec : {M : Type 1} → statement M
 is-seen-spec =
     tie.close
     (tie.spec
-    Inv-loop
-    μ-loop
-    loop-holds
-    thread-at-requires
-    same-color-requires
-    returns
-    add-i
-    loop-less
-    loop-again
-    returns-2)
+    Inv-loop μ-loop loop-holds thread-at-requires same-color-requires returns add-i loop-less loop-again returns-2)

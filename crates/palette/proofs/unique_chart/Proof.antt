@@ -59,15 +59,5 @@ pub unique-chart-spec : {M : Type 1} → statement M
 unique-chart-spec =
     tie.close
     (tie.spec
-    Inv-loop
-    μ-loop
-    pec-palette-requires
-    loop-holds
-    thread-at-requires
-    new-entry-requires
-    filled-requires
-    filled-requires-2
-    add-i
-    loop-less
-    loop-again
-    returns)
+    Inv-loop μ-loop pec-palette-requires loop-holds thread-at-requires new-entry-requires filled-requires
+    filled-requires-2 add-i loop-less loop-again returns)

@@ -70,15 +70,5 @@ pub unique-palette-spec : {M : Type 1} → statement M
 unique-palette-spec =
     tie.close
     (tie.spec
-    Inv-loop
-    μ-loop
-    unique-chart-requires
-    loop-holds
-    thread-at-requires
-    entry-in-requires
-    put-requires
-    add-i
-    loop-less
-    loop-again
-    same-length
-    returns)
+    Inv-loop μ-loop unique-chart-requires loop-holds thread-at-requires entry-in-requires put-requires add-i
+    loop-less loop-again same-length returns)

@@ -75,17 +75,5 @@ pub count-spec : {M : Type 1} → statement M
 count-spec =
     tie.close
     (tie.spec
-    Inv-loop
-    μ-loop
-    new-requires
-    loop-holds
-    skip-plain-requires
-    after-stitches-requires
-    record-at-requires
-    follow-requires
-    place-after-requires
-    loop-less
-    loop-again
-    finish-requires
-    counts-requires
-    returns)
+    Inv-loop μ-loop new-requires loop-holds skip-plain-requires after-stitches-requires record-at-requires
+    follow-requires place-after-requires loop-less loop-again finish-requires counts-requires returns)

@@ -141,23 +141,6 @@ pub fill-spec : {M : Type 1} → statement M
 fill-spec =
     tie.close
     (tie.spec
-    Inv-loop
-    μ-loop
-    new-requires
-    loop-holds
-    opens-requires
-    add-draw-plain
-    draw-plain-requires
-    after-stretch-requires
-    record-at-requires
-    write-requires
-    place-after-requires
-    loop-less
-    loop-again
-    close-requires
-    finish-requires
-    counts-requires
-    same-length
-    same-length-2
-    same-length-3
-    returns)
+    Inv-loop μ-loop new-requires loop-holds opens-requires add-draw-plain draw-plain-requires after-stretch-requires
+    record-at-requires write-requires place-after-requires loop-less loop-again close-requires finish-requires
+    counts-requires same-length same-length-2 same-length-3 returns)

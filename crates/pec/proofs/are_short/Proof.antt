@@ -59,14 +59,4 @@ returns c =
 
 pub are-short-spec : {M : Type 1} → statement M
 are-short-spec =
-    tie.close
-    (tie.spec
-    Inv-loop
-    μ-loop
-    loop-holds
-    add-loop
-    is-short-at-requires
-    add-k
-    loop-less
-    loop-again
-    returns)
+    tie.close (tie.spec Inv-loop μ-loop loop-holds add-loop is-short-at-requires add-k loop-less loop-again returns)

@@ -24,9 +24,6 @@ near c =
     let a = c .args in
     near-step (now (a .xs)) (now (a .ys)) (now (a .kinds)) (c .pre .1) (a .i) (c .pre .0 .0) (c .pre .0 .1)
 
-sub-step : tie.Need-sub-step
-sub-step c = search needs
-
 mul-step : tie.Need-mul-step
 mul-step c = omega (arith, here (c .before))
 
@@ -44,9 +41,6 @@ step-requires c κs =
     let start = c .before .before .before in
     rw (read-step (now (start .args .xs)) (start .args .i) (c .before .step-arg .given) (c .step-arg2 .given)) (near start .x)
 
-sub-step-2 : tie.Need-sub-step-2
-sub-step-2 c = search needs
-
 mul-step-3 : tie.Need-mul-step-3
 mul-step-3 c = omega (arith, here (c .before .before .before .before))
 
@@ -63,12 +57,6 @@ step-requires-2 : tie.Need-step-requires-2
 step-requires-2 c κs =
     let start = c .before .before .before .before .before .before in
     rw (read-step (now (start .args .ys)) (start .args .i) (c .before .step-arg3 .given) (c .step-arg4 .given)) (near start .y)
-
-is-short-requires : tie.Need-is-short-requires
-is-short-requires c κs = search needs
-
-is-short-requires-2 : tie.Need-is-short-requires-2
-is-short-requires-2 c κs = search needs
 
 shared-slice-read-result : tie.Need-shared-slice-read-result
 shared-slice-read-result c = omega (arith, here (c .before .before .before .before .before .before .before .before .before .before))
@@ -97,19 +85,6 @@ pub is-short-at-spec : {M : Type 1} → statement M
 is-short-at-spec =
     tie.close
     (tie.spec
-    sub-step
-    mul-step
-    shared-slice-copy-out-step
-    mul-step-2
-    shared-slice-copy-out-step-2
-    step-requires
-    sub-step-2
-    mul-step-3
-    shared-slice-copy-out-step-3
-    mul-step-4
-    shared-slice-copy-out-step-4
-    step-requires-2
-    is-short-requires
-    is-short-requires-2
-    shared-slice-read-result
-    returns)
+    (λ c. search needs) mul-step shared-slice-copy-out-step mul-step-2 shared-slice-copy-out-step-2 step-requires
+    (λ c. search needs) mul-step-3 shared-slice-copy-out-step-3 mul-step-4 shared-slice-copy-out-step-4
+    step-requires-2 (λ c κs. search needs) (λ c κs. search needs) shared-slice-read-result returns)

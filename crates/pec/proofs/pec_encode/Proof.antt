@@ -228,39 +228,8 @@ pub pec-encode-spec : {M : Type 1} → statement M
 pec-encode-spec =
     tie.close
     (tie.spec
-    Inv-loop
-    μ-loop
-    list-len-requires
-    start-requires
-    loop-holds
-    looks-requires
-    short-till-requires
-    put-shorts-requires
-    sub-x
-    mul-x
-    shared-slice-copy-out-x
-    sub-y
-    mul-y
-    shared-slice-copy-out-y
-    loop-less
-    loop-again
-    one-less-requires
-    shared-slice-read-kind
-    mul-nx
-    shared-slice-copy-out-nx
-    mul-ny
-    shared-slice-copy-out-ny
-    step-requires
-    step-requires-2
-    add-i
-    is-going-requires
-    put-steps-requires
-    loop-less-2
-    loop-again-2
-    op-of-requires
-    put-cmd-requires
-    next-requires
-    loop-less-3
-    loop-again-3
-    same-length
-    returns)
+    Inv-loop μ-loop list-len-requires start-requires loop-holds looks-requires short-till-requires
+    put-shorts-requires sub-x mul-x shared-slice-copy-out-x sub-y mul-y shared-slice-copy-out-y loop-less loop-again
+    one-less-requires shared-slice-read-kind mul-nx shared-slice-copy-out-nx mul-ny shared-slice-copy-out-ny
+    step-requires step-requires-2 add-i is-going-requires put-steps-requires loop-less-2 loop-again-2 op-of-requires
+    put-cmd-requires next-requires loop-less-3 loop-again-3 same-length returns)

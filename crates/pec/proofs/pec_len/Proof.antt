@@ -228,42 +228,8 @@ pub pec-len-spec : {M : Type 1} → statement M
 pec-len-spec =
     tie.close
     (tie.spec
-    Inv-loop
-    μ-loop
-    list-len-requires
-    start-requires
-    loop-holds
-    looks-requires
-    short-till-requires
-    sub-total
-    mul-total
-    add-total
-    sub-x
-    mul-x
-    shared-slice-copy-out-x
-    sub-y
-    mul-y
-    shared-slice-copy-out-y
-    loop-less
-    loop-again
-    one-less-requires
-    shared-slice-read-kind
-    mul-nx
-    shared-slice-copy-out-nx
-    mul-ny
-    shared-slice-copy-out-ny
-    step-requires
-    step-requires-2
-    add-i
-    is-going-requires
-    steps-len-requires
-    add-total-2
-    loop-less-2
-    loop-again-2
-    op-of-requires
-    cmd-len-requires
-    add-total-3
-    next-requires
-    loop-less-3
-    loop-again-3
-    returns)
+    Inv-loop μ-loop list-len-requires start-requires loop-holds looks-requires short-till-requires sub-total
+    mul-total add-total sub-x mul-x shared-slice-copy-out-x sub-y mul-y shared-slice-copy-out-y loop-less loop-again
+    one-less-requires shared-slice-read-kind mul-nx shared-slice-copy-out-nx mul-ny shared-slice-copy-out-ny
+    step-requires step-requires-2 add-i is-going-requires steps-len-requires add-total-2 loop-less-2 loop-again-2
+    op-of-requires cmd-len-requires add-total-3 next-requires loop-less-3 loop-again-3 returns)

@@ -154,26 +154,6 @@ pub put-shorts-spec : {M : Type 1} → statement M
 put-shorts-spec =
     tie.close
     (tie.spec
-    Inv-loop
-    μ-loop
-    loop-holds
-    sub-step
-    mul-step
-    shared-slice-copy-out-step
-    mul-step-2
-    shared-slice-copy-out-step-2
-    step-requires
-    sub-step-2
-    mul-step-3
-    shared-slice-copy-out-step-3
-    mul-step-4
-    shared-slice-copy-out-step-4
-    step-requires-2
-    low7-requires
-    low7-requires-2
-    put2-requires
-    add-k
-    loop-less
-    loop-again
-    same-length
-    returns)
+    Inv-loop μ-loop loop-holds sub-step mul-step shared-slice-copy-out-step mul-step-2 shared-slice-copy-out-step-2
+    step-requires sub-step-2 mul-step-3 shared-slice-copy-out-step-3 mul-step-4 shared-slice-copy-out-step-4
+    step-requires-2 low7-requires low7-requires-2 put2-requires add-k loop-less loop-again same-length returns)

@@ -59,14 +59,5 @@ pub short-till-spec : {M : Type 1} → statement M
 short-till-spec =
     tie.close
     (tie.spec
-    Inv-loop
-    μ-loop
-    list-len-requires
-    loop-holds
-    add-loop
-    are-short-requires
-    returns
-    add-k
-    loop-less
-    loop-again
+    Inv-loop μ-loop list-len-requires loop-holds add-loop are-short-requires returns add-k loop-less loop-again
     returns-2)

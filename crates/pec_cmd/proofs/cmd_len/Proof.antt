@@ -9,45 +9,6 @@ use borrow.Author.Needs.{needs}
 use Rattle.pec_cmd.proofs.cmd_len.Statement.{statement}
 use Rattle.pec_cmd.proofs.cmd_len.Tie as tie
 
-enum-told : tie.Need-enum-told
-enum-told c = search needs
-
-pauses-requires : tie.Need-pauses-requires
-pauses-requires c κs = search needs
-
-pause-len-requires : tie.Need-pause-len-requires
-pause-len-requires c κs = search needs
-
-value-len-requires : tie.Need-value-len-requires
-value-len-requires c κs = search needs
-
-add-result : tie.Need-add-result
-add-result c = search needs
-
-value-len-requires-2 : tie.Need-value-len-requires-2
-value-len-requires-2 c κs = search needs
-
-add-result-2 : tie.Need-add-result-2
-add-result-2 c = search needs
-
-enum-told-2 : tie.Need-enum-told-2
-enum-told-2 c = search needs
-
-enum-told-3 : tie.Need-enum-told-3
-enum-told-3 c = search needs
-
-enum-told-4 : tie.Need-enum-told-4
-enum-told-4 c = search needs
-
-pause-len-requires-2 : tie.Need-pause-len-requires-2
-pause-len-requires-2 c κs = search needs
-
-add-result-3 : tie.Need-add-result-3
-add-result-3 c = search needs
-
-enum-told-5 : tie.Need-enum-told-5
-enum-told-5 c = search needs
-
 returns : tie.Need-returns
 returns c =
     let v = c .before in
@@ -81,21 +42,6 @@ pub cmd-len-spec : {M : Type 1} → statement M
 cmd-len-spec =
     tie.close
     (tie.spec
-    enum-told
-    pauses-requires
-    pause-len-requires
-    value-len-requires
-    add-result
-    value-len-requires-2
-    add-result-2
-    enum-told-2
-    enum-told-3
-    enum-told-4
-    pause-len-requires-2
-    add-result-3
-    enum-told-5
-    returns
-    returns-2
-    returns-3
-    returns-4
-    returns-5)
+    (λ c. search needs) (λ c κs. search needs) (λ c κs. search needs) (λ c κs. search needs) (λ c. search needs)
+    (λ c κs. search needs) (λ c. search needs) (λ c. search needs) (λ c. search needs) (λ c. search needs)
+    (λ c κs. search needs) (λ c. search needs) (λ c. search needs) returns returns-2 returns-3 returns-4 returns-5)

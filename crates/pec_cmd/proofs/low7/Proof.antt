@@ -13,11 +13,8 @@ add-result c = over-fits 128 (c .fits .z) (omega arith) (omega arith)
 cast-result : tie.Need-cast-result
 cast-result c = rw (over-is 128 (c .fits .z) (omega arith) (omega arith)) (tt, record { fits = omega (arith, abs-is (c .args .z)) })
 
-cast-result-2 : tie.Need-cast-result-2
-cast-result-2 c = search needs
-
 returns : tie.Need-returns
 returns c = rw (over-is 128 (c .fits .z) (omega arith) (omega arith)) (sym (seven (c .args .z) (c .pre)))
 
 pub low7-spec : {M : Type 1} → statement M
-low7-spec = tie.close (tie.spec add-result cast-result cast-result-2 returns)
+low7-spec = tie.close (tie.spec add-result cast-result (λ c. search needs) returns)

@@ -21,15 +21,6 @@ kept s Trim k = refl
 kept s ColorChange k = absurd (miss (2 ∷ 4 ∷ []) 3 tt k)
 kept s End k = refl
 
-enum-told : tie.Need-enum-told
-enum-told c = search needs
-
-enum-told-2 : tie.Need-enum-told-2
-enum-told-2 c = search needs
-
-enum-told-3 : tie.Need-enum-told-3
-enum-told-3 c = search needs
-
 returns : tie.Need-returns
 unfolding pecNext
 returns c = rw (c .enum-told .given .1)
@@ -47,4 +38,6 @@ returns-4 c = kept _ (c .before .args .op) (c .match .keys4)
 
 pub next-spec : {M : Type 1} → statement M
 next-spec =
-    tie.close (tie.spec enum-told enum-told-2 enum-told-3 returns returns-2 returns-3 returns-4)
+    tie.close
+    (tie.spec
+    (λ c. search needs) (λ c. search needs) (λ c. search needs) returns returns-2 returns-3 returns-4)

@@ -9,9 +9,6 @@ use borrow.Author.Needs.{needs}
 use Rattle.pec_cmd.proofs.pec_value.Statement.{statement}
 use Rattle.pec_cmd.proofs.pec_value.Tie as tie
 
-is-short-requires : tie.Need-is-short-requires
-is-short-requires c κs = search needs
-
 low7-requires : tie.Need-low7-requires
 low7-requires c κs =
     let s = c .before .before .before .before in
@@ -23,9 +20,6 @@ put-requires c κs =
     let s = c .before .before .before .before .before in
     let e = rw (toZ-ofZ (s .fits .z)) at (sym (c .before .before .before .is-short .ensures) ∙ c .before .before .if1 .taken) in
     rw (one-byte (s .args .z) e) at (s .pre .1)
-
-same-length : tie.Need-same-length
-same-length c = search needs
 
 returns : tie.Need-returns
 returns c =
@@ -40,9 +34,6 @@ put-wide-requires c κs =
     let e = rw (toZ-ofZ (s .fits .z)) at (sym (c .before .before .is-short .ensures) ∙ c .before .if1 .left) in
     rw (toZ-ofZ (s .fits .z)) ((omega arith, s .pre .0), rw (two-bytes (s .args .z) e) at (s .pre .1))
 
-same-length-2 : tie.Need-same-length-2
-same-length-2 c = search needs
-
 returns-2 : tie.Need-returns-2
 returns-2 c =
     let s = c .before .before .before .before .before .before .before in
@@ -53,11 +44,5 @@ pub pec-value-spec : {M : Type 1} → statement M
 pec-value-spec =
     tie.close
     (tie.spec
-    is-short-requires
-    low7-requires
-    put-requires
-    same-length
-    returns
-    put-wide-requires
-    same-length-2
-    returns-2)
+    (λ c κs. search needs) low7-requires put-requires (λ c. search needs) returns put-wide-requires
+    (λ c. search needs) returns-2)

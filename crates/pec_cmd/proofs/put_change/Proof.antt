@@ -15,18 +15,12 @@ put-pause-requires c κs =
     let long = change-long (stateOf (s .args .s)) (pos 0) (pos 0) in
     omega (arith, long, s .pre)
 
-color-byte-requires : tie.Need-color-byte-requires
-color-byte-requires c κs = search needs
-
 put3-requires : tie.Need-put3-requires
 put3-requires c κs =
     let s = c .before .before .before .before .before .before .before in
     let long = change-long (stateOf (s .args .s)) (pos 0) (pos 0) in
     let p = c .before .before .before .before .put-pause .ensures in
     omega (arith, long, s .pre, p .ends, put-length p)
-
-same-length : tie.Need-same-length
-same-length c = search needs
 
 returns : tie.Need-returns
 unfolding pecCmd
@@ -36,4 +30,4 @@ returns c =
 
 pub put-change-spec : {M : Type 1} → statement M
 put-change-spec =
-    tie.close (tie.spec put-pause-requires color-byte-requires put3-requires same-length returns)
+    tie.close (tie.spec put-pause-requires (λ c κs. search needs) put3-requires (λ c. search needs) returns)

@@ -7,16 +7,10 @@ use borrow.Author.Needs.{needs}
 use Rattle.pec_cmd.proofs.put_cmd.Statement.{statement}
 use Rattle.pec_cmd.proofs.put_cmd.Tie as tie
 
-enum-told : tie.Need-enum-told
-enum-told c = search needs
-
 put-stitch-requires : tie.Need-put-stitch-requires
 put-stitch-requires c κs =
     let s = c .before .before .before .before in
     rw (toZ-ofZ (s .fits .dx), toZ-ofZ (s .fits .dy)) (s .pre .0, rw (c .before .enum-told .given .1) at (s .pre .1))
-
-enum-told-2 : tie.Need-enum-told-2
-enum-told-2 c = search needs
 
 put-jump-requires : tie.Need-put-jump-requires
 unfolding pecCmd wide
@@ -24,33 +18,18 @@ put-jump-requires c κs =
     let s = c .before .before .before .before in
     rw (toZ-ofZ (s .fits .dx), toZ-ofZ (s .fits .dy)) (s .pre .0, rw (c .before .enum-told2 .given .1) at (s .pre .1))
 
-enum-told-3 : tie.Need-enum-told-3
-enum-told-3 c = search needs
-
-enum-told-4 : tie.Need-enum-told-4
-enum-told-4 c = search needs
-
 put-change-requires : tie.Need-put-change-requires
 unfolding pecCmd
 put-change-requires c κs = rw (c .before .enum-told4 .given .1) at (c .before .before .before .before .pre .1)
-
-enum-told-5 : tie.Need-enum-told-5
-enum-told-5 c = search needs
 
 put-requires : tie.Need-put-requires
 unfolding pecCmd
 put-requires c κs = rw (c .before .enum-told5 .given .1) at (c .before .before .before .before .pre .1)
 
-same-length : tie.Need-same-length
-same-length c = search needs
-
 returns : tie.Need-returns
 returns c =
     let s = c .before .before .before .before .before .before .before in
     rw (c .before .before .before .before .enum-told .given .1) (rw (toZ-ofZ (s .fits .dx), toZ-ofZ (s .fits .dy)) at (c .before .before .put-stitch .ensures))
-
-same-length-2 : tie.Need-same-length-2
-same-length-2 c = search needs
 
 returns-2 : tie.Need-returns-2
 returns-2 c =
@@ -61,15 +40,9 @@ returns-3 : tie.Need-returns-3
 unfolding pecCmd
 returns-3 c = let s = c .before .before .before in rw (c .enum-told3 .given .1) (put-nothing (now (s .args .out)) (s .args .at))
 
-same-length-3 : tie.Need-same-length-3
-same-length-3 c = search needs
-
 returns-4 : tie.Need-returns-4
 unfolding pecCmd
 returns-4 c = rw (c .before .before .before .before .enum-told4 .given .1) (c .before .before .put-change .ensures)
-
-same-length-4 : tie.Need-same-length-4
-same-length-4 c = search needs
 
 returns-5 : tie.Need-returns-5
 unfolding pecCmd
@@ -79,21 +52,6 @@ pub put-cmd-spec : {M : Type 1} → statement M
 put-cmd-spec =
     tie.close
     (tie.spec
-    enum-told
-    put-stitch-requires
-    enum-told-2
-    put-jump-requires
-    enum-told-3
-    enum-told-4
-    put-change-requires
-    enum-told-5
-    put-requires
-    same-length
-    returns
-    same-length-2
-    returns-2
-    returns-3
-    same-length-3
-    returns-4
-    same-length-4
-    returns-5)
+    (λ c. search needs) put-stitch-requires (λ c. search needs) put-jump-requires (λ c. search needs)
+    (λ c. search needs) put-change-requires (λ c. search needs) put-requires (λ c. search needs) returns
+    (λ c. search needs) returns-2 returns-3 (λ c. search needs) returns-4 (λ c. search needs) returns-5)

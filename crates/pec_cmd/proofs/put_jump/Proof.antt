@@ -7,21 +7,12 @@ use borrow.Author.Needs.{needs}
 use Rattle.pec_cmd.proofs.put_jump.Statement.{statement}
 use Rattle.pec_cmd.proofs.put_jump.Tie as tie
 
-flag-requires : tie.Need-flag-requires
-flag-requires c κs = search needs
-
-put-wide-requires : tie.Need-put-wide-requires
-put-wide-requires c κs = search needs
-
 put-wide-requires-2 : tie.Need-put-wide-requires-2
 unfolding wide
 put-wide-requires-2 c κs =
     let s = c .before .before .before .before .before .before .before in
     let p = c .before .before .before .put-wide .ensures in
     rw (toZ-ofZ (s .fits .dy)) ((c .before .before .before .before .before .flag .ensures .1, s .pre .0 .y), omega (arith, s .pre .1, p .ends, put-length p))
-
-same-length : tie.Need-same-length
-same-length c = search needs
 
 returns : tie.Need-returns
 unfolding pecCmd
@@ -32,4 +23,6 @@ returns c =
 
 pub put-jump-spec : {M : Type 1} → statement M
 put-jump-spec =
-    tie.close (tie.spec flag-requires put-wide-requires put-wide-requires-2 same-length returns)
+    tie.close
+    (tie.spec
+    (λ c κs. search needs) (λ c κs. search needs) put-wide-requires-2 (λ c. search needs) returns)

@@ -10,9 +10,6 @@ put2-requires : tie.Need-put2-requires
 unfolding pause
 put2-requires c κs = rw (c .before .if1 .taken) at (c .before .before .before .pre)
 
-same-length : tie.Need-same-length
-same-length c = search needs
-
 returns : tie.Need-returns
 unfolding pause
 returns c = rw (c .before .before .before .before .if1 .taken) (c .before .before .put2 .ensures)
@@ -22,4 +19,4 @@ unfolding pause
 returns-2 c = let s = c .before .before in rw (c .if1 .left) (put-nothing (now (s .args .out)) (s .args .at))
 
 pub put-pause-spec : {M : Type 1} → statement M
-put-pause-spec = tie.close (tie.spec put2-requires same-length returns returns-2)
+put-pause-spec = tie.close (tie.spec put2-requires (λ c. search needs) returns returns-2)

@@ -11,9 +11,6 @@ use borrow.Author.Needs.{needs}
 use Rattle.pec_cmd.proofs.put_steps.Statement.{statement}
 use Rattle.pec_cmd.proofs.put_steps.Tie as tie
 
-steps-len-requires : tie.Need-steps-len-requires
-steps-len-requires c κs = search needs
-
 -- what the test says
 both : (c : tie.Then1) → (let a = c .before .before .before .args in (short (a .dx) ≡ true) × (short (a .dy) ≡ true))
 both c =
@@ -36,9 +33,6 @@ put2-requires c κs =
     let s = c .before .before .before .before .before .before in
     rw (both-bytes (s .args .dx) (s .args .dy) (both (c .before .before .before))) at (s .pre .1)
 
-same-length : tie.Need-same-length
-same-length c = search needs
-
 returns : tie.Need-returns
 returns c =
     let low = c .before .before .before in
@@ -57,9 +51,6 @@ pec-value-requires-2 c κs =
     let q = rw (toZ-ofZ (s .fits .dx)) at (c .before .before .before .pec-value .ensures) in
     rw (toZ-ofZ (s .fits .dy)) (s .pre .0 .y, omega (arith, length-append (pecValue (s .args .dx)) (pecValue (s .args .dy)), s .pre .1, q .ends, put-length q))
 
-same-length-2 : tie.Need-same-length-2
-same-length-2 c = search needs
-
 returns-2 : tie.Need-returns-2
 returns-2 c =
     let s = c .before .before .before .before .before .before .before .before .before .before .before in
@@ -71,13 +62,5 @@ pub put-steps-spec : {M : Type 1} → statement M
 put-steps-spec =
     tie.close
     (tie.spec
-    steps-len-requires
-    low7-requires
-    low7-requires-2
-    put2-requires
-    same-length
-    returns
-    pec-value-requires
-    pec-value-requires-2
-    same-length-2
-    returns-2)
+    (λ c κs. search needs) low7-requires low7-requires-2 put2-requires (λ c. search needs) returns
+    pec-value-requires pec-value-requires-2 (λ c. search needs) returns-2)

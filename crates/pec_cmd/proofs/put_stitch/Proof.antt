@@ -9,9 +9,6 @@ use borrow.Author.Needs.{needs}
 use Rattle.pec_cmd.proofs.put_stitch.Statement.{statement}
 use Rattle.pec_cmd.proofs.put_stitch.Tie as tie
 
-pauses-requires : tie.Need-pauses-requires
-pauses-requires c κs = search needs
-
 put-pause-requires : tie.Need-put-pause-requires
 put-pause-requires c κs =
     let s = c .before .before .before in
@@ -35,9 +32,6 @@ pec-value-requires-2 c κs =
     let q = rw (toZ-ofZ (s .fits .dx)) at (c .before .before .before .pec-value .ensures) in
     rw (toZ-ofZ (s .fits .dy)) (s .pre .0 .y, omega (arith, long, s .pre .1, p .ends, put-length p, q .ends, put-length q))
 
-same-length : tie.Need-same-length
-same-length c = search needs
-
 returns : tie.Need-returns
 unfolding pecCmd
 returns c =
@@ -52,9 +46,4 @@ pub put-stitch-spec : {M : Type 1} → statement M
 put-stitch-spec =
     tie.close
     (tie.spec
-    pauses-requires
-    put-pause-requires
-    pec-value-requires
-    pec-value-requires-2
-    same-length
-    returns)
+    (λ c κs. search needs) put-pause-requires pec-value-requires pec-value-requires-2 (λ c. search needs) returns)

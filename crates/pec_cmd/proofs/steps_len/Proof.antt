@@ -7,15 +7,6 @@ use borrow.Author.Needs.{needs}
 use Rattle.pec_cmd.proofs.steps_len.Statement.{statement}
 use Rattle.pec_cmd.proofs.steps_len.Tie as tie
 
-value-len-requires : tie.Need-value-len-requires
-value-len-requires c κs = search needs
-
-value-len-requires-2 : tie.Need-value-len-requires-2
-value-len-requires-2 c κs = search needs
-
-add-result : tie.Need-add-result
-add-result c = search needs
-
 returns : tie.Need-returns
 returns c =
     let s = c .before .before in
@@ -24,4 +15,4 @@ returns c =
     (omega (arith, length-append (pecValue (s .args .dx)) (pecValue (s .args .dy)), p, q), omega (arith, c .before .value-len .ensures .1, c .value-len2 .ensures .1))
 
 pub steps-len-spec : {M : Type 1} → statement M
-steps-len-spec = tie.close (tie.spec value-len-requires value-len-requires-2 add-result returns)
+steps-len-spec = tie.close (tie.spec (λ c κs. search needs) (λ c κs. search needs) (λ c. search needs) returns)

@@ -8,9 +8,6 @@ use borrow.Author.Needs.{needs}
 use Rattle.pec_cmd.proofs.value_len.Statement.{statement}
 use Rattle.pec_cmd.proofs.value_len.Tie as tie
 
-is-short-requires : tie.Need-is-short-requires
-is-short-requires c κs = search needs
-
 returns : tie.Need-returns
 returns c =
     let s = c .before .before in
@@ -25,4 +22,4 @@ returns-2 c =
     rw (two-bytes (s .args .z) e) (refl, omega arith)
 
 pub value-len-spec : {M : Type 1} → statement M
-value-len-spec = tie.close (tie.spec is-short-requires returns returns-2)
+value-len-spec = tie.close (tie.spec (λ c κs. search needs) returns returns-2)

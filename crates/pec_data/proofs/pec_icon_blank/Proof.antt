@@ -35,40 +35,10 @@ loop-holds : tie.Need-loop-holds Inv-loop μ-loop
 unfolding rows
 loop-holds c = (omega arith, (omega arith, refl))
 
-edge-requires : tie.Need-edge-requires Inv-loop μ-loop
-edge-requires c κs = search needs
-
-mul-icon : tie.Need-mul-icon Inv-loop μ-loop
-mul-icon c = search needs
-
-array-write-icon : tie.Need-array-write-icon Inv-loop μ-loop
-array-write-icon c = search needs
-
-div-icon : tie.Need-div-icon Inv-loop μ-loop
-div-icon c = search needs
-
-mul-icon-2 : tie.Need-mul-icon-2 Inv-loop μ-loop
-mul-icon-2 c = search needs
-
-add-icon : tie.Need-add-icon Inv-loop μ-loop
-add-icon c = search needs
-
-array-write-icon-2 : tie.Need-array-write-icon-2 Inv-loop μ-loop
-array-write-icon-2 c = search needs
-
-add-row : tie.Need-add-row Inv-loop μ-loop
-add-row c = search needs
-
-loop-less : tie.Need-loop-less Inv-loop μ-loop
-loop-less c = search needs
-
 loop-again : tie.Need-loop-again Inv-loop μ-loop
 loop-again c =
     let l = c .before .before .loop in
     (omega arith, (omega arith, next (l .row) (l .inv .0) (l .inv .1 .1) (c .edge .ensures .0)))
-
-closed-requires : tie.Need-closed-requires Inv-loop μ-loop
-closed-requires c κs = search needs
 
 returns : tie.Need-returns Inv-loop μ-loop
 unfolding rows edgeOf blankIcon joined
@@ -81,18 +51,6 @@ pub pec-icon-blank-spec : {M : Type 1} → statement M
 pec-icon-blank-spec =
     tie.close
     (tie.spec
-    Inv-loop
-    μ-loop
-    loop-holds
-    edge-requires
-    mul-icon
-    array-write-icon
-    div-icon
-    mul-icon-2
-    add-icon
-    array-write-icon-2
-    add-row
-    loop-less
-    loop-again
-    closed-requires
-    returns)
+    Inv-loop μ-loop loop-holds (λ c κs. search needs) (λ c. search needs) (λ c. search needs) (λ c. search needs)
+    (λ c. search needs) (λ c. search needs) (λ c. search needs) (λ c. search needs) (λ c. search needs) loop-again
+    (λ c κs. search needs) returns)

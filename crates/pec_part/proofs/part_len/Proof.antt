@@ -9,9 +9,6 @@ use Rattle.pec_part.proofs.part_len.Tie as tie
 add-result : tie.Need-add-result
 add-result c = let a = c .before .before .args in let e = bytes-few (now (a .xs)) (now (a .ys)) (now (a .kinds)) (c .before .before .pre .0 .0) (c .before .before .pre .1) in omega arith
 
-color-changes-requires : tie.Need-color-changes-requires
-color-changes-requires c κs = search needs
-
 add-result-2 : tie.Need-add-result-2
 add-result-2 c = let a = c .before .before .before .args in let e = bytes-few (now (a .xs)) (now (a .ys)) (now (a .kinds)) (c .before .before .before .pre .0 .0) (c .before .before .before .pre .1) in let f = changes-few (now (a .xs)) (now (a .ys)) (now (a .kinds)) (c .before .before .before .pre .0 .0) (c .color-changes .ensures) in omega arith
 
@@ -27,4 +24,4 @@ returns c = let a = c .before .before .before .args in part-long (now (a .xs)) (
 pub part-len-spec : {M : Type 1} → statement M
 part-len-spec =
     tie.close
-    (tie.spec add-result color-changes-requires add-result-2 mul-result add-result-3 returns)
+    (tie.spec add-result (λ c κs. search needs) add-result-2 mul-result add-result-3 returns)

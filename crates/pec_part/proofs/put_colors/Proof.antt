@@ -33,32 +33,8 @@ module _ (threads : List ℕ) where
   some : ((n ≡ 0) → ⊥) → replicate 12 0x20 ++ (((n - 1) ∷ []) ++ uniquePalette (threadsOf threads)) ≡ pecColors (uniquePalette (threadsOf threads))
   some h = with-count (uniquePalette (threadsOf threads)) (omega (arith, length-unique (threadsOf threads), length-threads threads, h))
 
-put-no-colors-requires : tie.Need-put-no-colors-requires
-put-no-colors-requires c κs = search needs
-
-same-length : tie.Need-same-length
-same-length c = search needs
-
 returns : tie.Need-returns
 returns c = put-as (c .before .before .put-no-colors .ensures) (none (now (c .before .before .before .before .before .before .before .args .threads)) (c .before .before .before .before .if1 .taken))
-
-put-times-requires : tie.Need-put-times-requires
-put-times-requires c κs = search needs
-
-sub-put : tie.Need-sub-put
-sub-put c = search needs
-
-cast-put : tie.Need-cast-put
-cast-put c = search needs
-
-put-requires : tie.Need-put-requires
-put-requires c κs = search needs
-
-unique-palette-requires : tie.Need-unique-palette-requires
-unique-palette-requires c κs = search needs
-
-same-length-2 : tie.Need-same-length-2
-same-length-2 c = search needs
 
 returns-2 : tie.Need-returns-2
 returns-2 c = put-as (put-put (c .before .before .before .before .before .before .before .before .before .before .put-times .ensures) (put-put (c .before .before .before .before .before .before .put .ensures) (c .before .before .unique-palette .ensures))) (some (now (c .before .before .before .before .before .before .before .before .before .before .before .before .before .before .before .args .threads)) (c .before .before .before .before .before .before .before .before .before .before .before .before .if1 .left))
@@ -67,13 +43,5 @@ pub put-colors-spec : {M : Type 1} → statement M
 put-colors-spec =
     tie.close
     (tie.spec
-    put-no-colors-requires
-    same-length
-    returns
-    put-times-requires
-    sub-put
-    cast-put
-    put-requires
-    unique-palette-requires
-    same-length-2
-    returns-2)
+    (λ c κs. search needs) (λ c. search needs) returns (λ c κs. search needs) (λ c. search needs)
+    (λ c. search needs) (λ c κs. search needs) (λ c κs. search needs) (λ c. search needs) returns-2)

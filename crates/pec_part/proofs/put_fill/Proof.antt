@@ -30,21 +30,6 @@ all-of (suc k) = ap (λ (s : List ℕ). 0x20 ∷ s) (all-of k)
 rest : (k n : ℕ) → take {A = ℕ} (k - n) (drop n (replicate k 0x20)) ≡ replicate (k - n) 0x20
 rest k n = rw (blanks k n) (all-of (k - n))
 
-sub-put-text : tie.Need-sub-put-text
-sub-put-text c = search needs
-
-part-put-text-start : tie.Need-part-put-text-start
-part-put-text-start c = search needs
-
-part-put-text-end : tie.Need-part-put-text-end
-part-put-text-end c = search needs
-
-put-text-requires : tie.Need-put-text-requires
-put-text-requires c κs = search needs
-
-same-length : tie.Need-same-length
-same-length c = search needs
-
 returns : tie.Need-returns
 returns c = put-as (c .before .before .put-text .ensures) (rest 463 (c .before .before .before .before .before .before .before .args .n))
 
@@ -52,9 +37,4 @@ pub put-fill-spec : {M : Type 1} → statement M
 put-fill-spec =
     tie.close
     (tie.spec
-    sub-put-text
-    part-put-text-start
-    part-put-text-end
-    put-text-requires
-    same-length
-    returns)
+    (λ c. search needs) (λ c. search needs) (λ c. search needs) (λ c κs. search needs) (λ c. search needs) returns)

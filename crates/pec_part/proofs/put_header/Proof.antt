@@ -10,9 +10,6 @@ use borrow.Author.Needs.{needs}
 use Rattle.pec_part.proofs.put_header.Statement.{statement}
 use Rattle.pec_part.proofs.put_header.Tie as tie
 
-put-label-requires : tie.Need-put-label-requires
-put-label-requires c κs = search needs
-
 put-colors-requires : tie.Need-put-colors-requires
 put-colors-requires c κs =
     let a = c .before .before .before .before .before .before .before .before .args in
@@ -25,9 +22,6 @@ put-fill-requires c κs =
       omega (arith, c .before .before .before .before .before .before .before .before .before .before .before .before .pre, put-length (c .before .before .before .before .before .before .before .put-label .ensures), put-length (c .before .before .before .put-colors .ensures), length-label (now (a .name)), length-entries (threadsOf (now (a .threads))), length-threads (now (a .threads))),
     )
 
-same-length : tie.Need-same-length
-same-length c = search needs
-
 returns : tie.Need-returns
 returns c =
     let a = c .before .before .before .before .before .before .before .before .before .before .before .before .before .before .before .args in
@@ -37,4 +31,4 @@ returns c =
 pub put-header-spec : {M : Type 1} → statement M
 put-header-spec =
     tie.close
-    (tie.spec put-label-requires put-colors-requires put-fill-requires same-length returns)
+    (tie.spec (λ c κs. search needs) put-colors-requires put-fill-requires (λ c. search needs) returns)

@@ -10,12 +10,6 @@ use borrow.Author.Needs.{needs}
 use Rattle.pec_part.proofs.put_label.Statement.{statement}
 use Rattle.pec_part.proofs.put_label.Tie as tie
 
-put3-requires : tie.Need-put3-requires
-put3-requires c κs = search needs
-
-put-name-requires : tie.Need-put-name-requires
-put-name-requires c κs = search needs
-
 put-requires : tie.Need-put-requires
 unfolding pecName
 put-requires c κs = omega (arith, put-length (c .before .before .before .before .before .before .before .put3 .ensures), put-length (c .before .before .before .put-name .ensures), simp leb·zero at (c .before .before .before .put-name .ensures .ends), length-name (now (c .before .before .before .before .before .before .before .before .before .before .before .args .name)))
@@ -28,9 +22,6 @@ put4-requires : tie.Need-put4-requires
 unfolding pecName
 put4-requires c κs = omega (arith, put-length (c .before .before .before .before .before .before .before .before .before .before .before .before .before .before .before .put3 .ensures), put-length (c .before .before .before .before .before .before .before .before .before .before .before .put-name .ensures), simp leb·zero at (c .before .before .before .before .before .before .before .before .before .before .before .put-name .ensures .ends), put-length (c .before .before .before .before .before .before .before .put .ensures), put-length (c .before .before .before .put-times .ensures), length-name (now (c .before .before .before .before .before .before .before .before .before .before .before .before .before .before .before .before .before .before .before .args .name)))
 
-same-length : tie.Need-same-length
-same-length c = search needs
-
 returns : tie.Need-returns
 unfolding joined pecName
 returns c = put-put (c .before .before .before .before .before .before .before .before .before .before .before .before .before .before .before .before .before .before .put3 .ensures) (put-put (simp leb·zero at (c .before .before .before .before .before .before .before .before .before .before .before .before .before .before .put-name .ensures)) (put-put (c .before .before .before .before .before .before .before .before .before .before .put .ensures) (put-put (c .before .before .before .before .before .before .put-times .ensures) (put-put (c .before .before .put4 .ensures) (put-nothing _ _)))))
@@ -39,10 +30,5 @@ pub put-label-spec : {M : Type 1} → statement M
 put-label-spec =
     tie.close
     (tie.spec
-    put3-requires
-    put-name-requires
-    put-requires
-    put-times-requires
-    put4-requires
-    same-length
+    (λ c κs. search needs) (λ c κs. search needs) put-requires put-times-requires put4-requires (λ c. search needs)
     returns)

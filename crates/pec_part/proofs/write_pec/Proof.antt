@@ -9,12 +9,6 @@ use borrow.Author.Needs.{needs}
 use Rattle.pec_part.proofs.write_pec.Statement.{statement}
 use Rattle.pec_part.proofs.write_pec.Tie as tie
 
-spread-requires : tie.Need-spread-requires
-spread-requires c κs = search needs
-
-spread-requires-2 : tie.Need-spread-requires-2
-spread-requires-2 c κs = search needs
-
 put-header-requires : tie.Need-put-header-requires
 put-header-requires c κs =
     let a = c .before .before .before .before .before .before .before .before .before .before .before .args in
@@ -51,9 +45,6 @@ put-icons-requires c κs =
     let few = threads-few (now (a .threads)) (c .before .before .before .before .before .before .before .before .before .before .before .before .before .before .before .before .before .before .before .before .before .before .before .pre .1 .0 .1 .0) in
     (c .before .before .before .before .before .before .before .before .before .before .before .before .before .before .before .before .before .before .before .before .before .before .before .pre .0, room-icons (now (a .name)) cs ts (now (a .out)) (a .at) few (c .before .before .before .before .before .before .before .before .before .before .before .before .before .before .before .before .before .before .before .before .before .before .before .pre .1 .1 .1) (c .before .before .before .before .before .before .before .before .before .before .before .put-header .ensures) (a .n) (c .before .before .before .before .before .before .before .before .before .before .before .before .before .before .before .before .spread .result) (c .before .before .before .before .before .before .before .before .before .before .before .before .before .spread2 .result) (c .before .before .before .before .before .before .before .put-sizes .ensures) (c .before .before .before .pec-encode .ensures))
 
-same-length : tie.Need-same-length
-same-length c = search needs
-
 returns : tie.Need-returns
 returns c =
     let a = c .before .before .before .before .before .before .before .before .before .before .before .before .before .before .before .before .before .before .before .before .before .before .before .before .before .before .args in
@@ -69,11 +60,5 @@ pub write-pec-spec : {M : Type 1} → statement M
 write-pec-spec =
     tie.close
     (tie.spec
-    spread-requires
-    spread-requires-2
-    put-header-requires
-    put-sizes-requires
-    pec-encode-requires
-    put-icons-requires
-    same-length
-    returns)
+    (λ c κs. search needs) (λ c κs. search needs) put-header-requires put-sizes-requires pec-encode-requires
+    put-icons-requires (λ c. search needs) returns)

@@ -12,15 +12,6 @@ use borrow.Author.Needs.{needs}
 use Rattle.pes.proofs.pec_accepted.Statement.{statement}
 use Rattle.pes.proofs.pec_accepted.Tie as tie
 
-pec-len-requires : tie.Need-pec-len-requires
-pec-len-requires c κs = search needs
-
-part-len-requires : tie.Need-part-len-requires
-part-len-requires c κs = search needs
-
-add-long : tie.Need-add-long
-add-long c = search needs
-
 returns : tie.Need-returns
 returns c =
     let a = c .before .before .before .before .before .before .before .args in
@@ -28,9 +19,6 @@ returns c =
     let ts = threadsOf (now (a .threads)) in
     let long : 8 + c .before .part-len .result ≡ length (pecFile (now (a .name)) cs ts) = omega (arith, c .before .part-len .ensures .long (now (a .name)), pec-length (now (a .name)) cs ts) in
     unwritten (omega (arith, long, c .if1 .taken))
-
-stream-bounds-requires : tie.Need-stream-bounds-requires
-stream-bounds-requires c κs = search needs
 
 put-pec-file-requires : tie.Need-put-pec-file-requires
 put-pec-file-requires c κs =
@@ -40,9 +28,6 @@ put-pec-file-requires c κs =
     let long : 8 + c .before .before .before .part-len .result ≡ length (pecFile (now (a .name)) cs ts) = omega (arith, c .before .before .before .part-len .ensures .long (now (a .name)), pec-length (now (a .name)) cs ts) in
     let p = c .before .before .before .before .before .before .before .before .before .pre in
     (c .before .stream-bounds .ensures, (record { long = p .0; few = p .1 .0; steps = p .1 .1; bytes = c .before .before .before .before .pec-len .ensures }, omega (arith, long, c .before .before .if1 .left)))
-
-same-length : tie.Need-same-length
-same-length c = search needs
 
 returns-2 : tie.Need-returns-2
 returns-2 c =
@@ -56,11 +41,5 @@ pub pec-accepted-spec : {M : Type 1} → statement M
 pec-accepted-spec =
     tie.close
     (tie.spec
-    pec-len-requires
-    part-len-requires
-    add-long
-    returns
-    stream-bounds-requires
-    put-pec-file-requires
-    same-length
-    returns-2)
+    (λ c κs. search needs) (λ c κs. search needs) (λ c. search needs) returns (λ c κs. search needs)
+    put-pec-file-requires (λ c. search needs) returns-2)

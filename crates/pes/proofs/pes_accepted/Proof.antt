@@ -12,12 +12,6 @@ use borrow.Author.Needs.{needs}
 use Rattle.pes.proofs.pes_accepted.Statement.{statement}
 use Rattle.pes.proofs.pes_accepted.Tie as tie
 
-thread-codes-requires : tie.Need-thread-codes-requires
-thread-codes-requires c κs = search needs
-
-measured-requires : tie.Need-measured-requires
-measured-requires c κs = search needs
-
 pec-len-requires : tie.Need-pec-len-requires
 pec-len-requires c κs =
     let a = c .before .before .before .before .before .before .before .args in
@@ -32,15 +26,6 @@ blocks-len-requires c κs =
     let ts = threadsOf (now (a .threads)) in
     (bytes-small (now (a .xs)) (now (a .ys)) (now (a .kinds)) ts (c .before .before .before .before .before .before .before .before .pre .0 .0) (c .before .measured .result) (c .before .measured .ensures), logged-small (now (a .xs)) (now (a .ys)) (now (a .kinds)) ts (c .before .before .before .before .before .before .before .before .pre .0 .0) (c .before .measured .result) (c .before .measured .ensures))
 
-add-long : tie.Need-add-long
-add-long c = search needs
-
-part-len-requires : tie.Need-part-len-requires
-part-len-requires c κs = search needs
-
-add-long-2 : tie.Need-add-long-2
-add-long-2 c = search needs
-
 returns : tie.Need-returns
 returns c =
     let a = c .before .before .before .before .before .before .before .before .before .before .before .args in
@@ -48,9 +33,6 @@ returns c =
     let ts = threadsOf (now (a .threads)) in
     let long : 22 + c .before .before .blocks-len .result + c .before .part-len .result ≡ length (pesFile (now (a .name)) cs ts) = omega (arith, c .before .before .blocks-len .ensures .0, blocks-long cs ts (c .before .before .before .before .measured .result) (c .before .before .before .before .measured .ensures), c .before .part-len .ensures .long (now (a .name)), file-long (now (a .name)) cs ts) in
     unwritten (omega (arith, long, c .if1 .taken))
-
-stream-bounds-requires : tie.Need-stream-bounds-requires
-stream-bounds-requires c κs = search needs
 
 put-pes-file-requires : tie.Need-put-pes-file-requires
 put-pes-file-requires c κs =
@@ -64,9 +46,6 @@ put-pes-file-requires c κs =
     let logged = logged-small (now (a .xs)) (now (a .ys)) (now (a .kinds)) ts (p .0 .0) (m .result) (m .ensures) in
     (c .before .before .stream-bounds .ensures, (c .before .before .before .before .before .before .before .before .before .thread-codes .ensures, (record { long = p .0 .0; few = p .0 .1 .0; steps = sym (same-steps cs) ∙ p .0 .1 .1; bytes = c .before .before .before .before .before .before .pec-len .ensures }, ((p .1, (m .ensures, (bytes, logged))), omega (arith, long, c .before .before .before .if1 .left)))))
 
-same-length : tie.Need-same-length
-same-length c = search needs
-
 returns-2 : tie.Need-returns-2
 returns-2 c =
     let a = c .before .before .before .before .before .before .before .before .before .before .before .before .before .before .before .before .before .args in
@@ -79,15 +58,6 @@ pub pes-accepted-spec : {M : Type 1} → statement M
 pes-accepted-spec =
     tie.close
     (tie.spec
-    thread-codes-requires
-    measured-requires
-    pec-len-requires
-    blocks-len-requires
-    add-long
-    part-len-requires
-    add-long-2
-    returns
-    stream-bounds-requires
-    put-pes-file-requires
-    same-length
-    returns-2)
+    (λ c κs. search needs) (λ c κs. search needs) pec-len-requires blocks-len-requires (λ c. search needs)
+    (λ c κs. search needs) (λ c. search needs) returns (λ c κs. search needs) put-pes-file-requires
+    (λ c. search needs) returns-2)

@@ -9,23 +9,11 @@ use borrow.Author.Needs.{needs}
 use Rattle.pes.proofs.pes_from_stream.Statement.{statement}
 use Rattle.pes.proofs.pes_from_stream.Tie as tie
 
-check-list-requires : tie.Need-check-list-requires
-check-list-requires c κs = search needs
-
-enum-told : tie.Need-enum-told
-enum-told c = search needs
-
 pes-accepted-requires : tie.Need-pes-accepted-requires
 pes-accepted-requires c κs =
     let a = c .before .before .before .before .before .before .before .before .args in
     let g = fine Pes (now (a .xs)) (now (a .ys)) (now (a .kinds)) (now (a .threads)) (sym (c .before .before .before .check-list .ensures) ∙ c .before .enum-told .given .1) in
     ((g .long, (g .few, g .steps)), g .places)
-
-enum-known-checked : tie.Need-enum-known-checked
-enum-known-checked c = search needs
-
-same-length : tie.Need-same-length
-same-length c = search needs
 
 returns : tie.Need-returns
 unfolding fileOf
@@ -46,10 +34,5 @@ pub pes-from-stream-spec : {M : Type 1} → statement M
 pes-from-stream-spec =
     tie.close
     (tie.spec
-    check-list-requires
-    enum-told
-    pes-accepted-requires
-    enum-known-checked
-    same-length
-    returns
+    (λ c κs. search needs) (λ c. search needs) pes-accepted-requires (λ c. search needs) (λ c. search needs) returns
     returns-2)

@@ -9,9 +9,6 @@ use borrow.Author.Needs.{needs}
 use Rattle.pes.proofs.put_pec_file.Statement.{statement}
 use Rattle.pes.proofs.put_pec_file.Tie as tie
 
-slice-aggregate-put-text : tie.Need-slice-aggregate-put-text
-slice-aggregate-put-text c = search needs
-
 put-text-requires : tie.Need-put-text-requires
 put-text-requires c κs =
     let a = c .before .before .before .before .before .before .args in
@@ -27,9 +24,6 @@ write-pec-requires c κs =
     let g = c .before .before .before .before .before .before .before .before .before .before .pre .1 .0 in
     (c .before .before .before .before .before .before .before .before .before .before .pre .0, ((g .long, (g .few, g .steps)), (g .bytes, omega (arith, pec-length (now (a .name)) cs ts, put-length (c .before .before .before .put-text .ensures), c .before .before .before .before .before .before .before .before .before .before .pre .1 .1))))
 
-same-length : tie.Need-same-length
-same-length c = search needs
-
 returns : tie.Need-returns
 unfolding pecFile
 returns c = put-put (c .before .before .before .before .before .before .put-text .ensures) (c .before .before .write-pec .ensures)
@@ -37,4 +31,4 @@ returns c = put-put (c .before .before .before .before .before .before .put-text
 pub put-pec-file-spec : {M : Type 1} → statement M
 put-pec-file-spec =
     tie.close
-    (tie.spec slice-aggregate-put-text put-text-requires write-pec-requires same-length returns)
+    (tie.spec (λ c. search needs) put-text-requires write-pec-requires (λ c. search needs) returns)

@@ -9,15 +9,6 @@ use borrow.Author.Needs.{needs}
 use Rattle.pes.proofs.put_pes_file.Statement.{statement}
 use Rattle.pes.proofs.put_pes_file.Tie as tie
 
-blocks-len-requires : tie.Need-blocks-len-requires
-blocks-len-requires c κs = search needs
-
-add-put-start : tie.Need-add-put-start
-add-put-start c = search needs
-
-cast-put-start : tie.Need-cast-put-start
-cast-put-start c = search needs
-
 put-start-requires : tie.Need-put-start-requires
 put-start-requires c κs =
     let a = c .before .before .before .before .before .before .args in
@@ -42,9 +33,6 @@ write-pec-requires c κs =
     let g = p .0 in
     (c .before .before .before .before .before .before .before .before .before .before .before .before .before .before .pre .0, ((g .long, (g .few, g .steps)), (g .bytes, room-part (now (a .name)) cs ts (now (a .out)) (p .1 .1) _ (c .before .before .before .before .before .before .before .put-start .ensures) (c .before .before .before .write-pes-blocks .ensures))))
 
-same-length : tie.Need-same-length
-same-length c = search needs
-
 returns : tie.Need-returns
 returns c =
     let a = c .before .before .before .before .before .before .before .before .before .before .before .before .before .before .before .before .before .args in
@@ -58,11 +46,5 @@ pub put-pes-file-spec : {M : Type 1} → statement M
 put-pes-file-spec =
     tie.close
     (tie.spec
-    blocks-len-requires
-    add-put-start
-    cast-put-start
-    put-start-requires
-    write-pes-blocks-requires
-    write-pec-requires
-    same-length
-    returns)
+    (λ c κs. search needs) (λ c. search needs) (λ c. search needs) put-start-requires write-pes-blocks-requires
+    write-pec-requires (λ c. search needs) returns)

@@ -7,15 +7,6 @@ use borrow.Author.Needs.{needs}
 use Rattle.pes.proofs.put_start.Statement.{statement}
 use Rattle.pes.proofs.put_start.Tie as tie
 
-slice-aggregate-put-text : tie.Need-slice-aggregate-put-text
-slice-aggregate-put-text c = search needs
-
-put-text-requires : tie.Need-put-text-requires
-put-text-requires c κs = search needs
-
-put-word-requires : tie.Need-put-word-requires
-put-word-requires c κs = search needs
-
 put-short-requires : tie.Need-put-short-requires
 unfolding little
 put-short-requires c κs = omega (arith, put-length (c .before .before .before .before .before .before .before .put-text .ensures), put-length (c .before .before .before .put-word .ensures))
@@ -36,9 +27,6 @@ put-short-requires-5 : tie.Need-put-short-requires-5
 unfolding little
 put-short-requires-5 c κs = omega (arith, put-length (c .before .before .before .before .before .before .before .before .before .before .before .before .before .before .before .before .before .before .before .before .before .before .before .put-text .ensures), put-length (c .before .before .before .before .before .before .before .before .before .before .before .before .before .before .before .before .before .before .before .put-word .ensures), put-length (c .before .before .before .before .before .before .before .before .before .before .before .before .before .before .before .put-short .ensures), put-length (c .before .before .before .before .before .before .before .before .before .before .before .put-short2 .ensures), put-length (c .before .before .before .before .before .before .before .put-short3 .ensures), put-length (c .before .before .before .put-short4 .ensures))
 
-same-length : tie.Need-same-length
-same-length c = search needs
-
 returns : tie.Need-returns
 unfolding joined shorts little
 returns c = put-put (c .before .before .before .before .before .before .before .before .before .before .before .before .before .before .before .before .before .before .before .before .before .before .before .before .before .before .put-text .ensures) (put-put (c .before .before .before .before .before .before .before .before .before .before .before .before .before .before .before .before .before .before .before .before .before .before .put-word .ensures) (put-put (c .before .before .before .before .before .before .before .before .before .before .before .before .before .before .before .before .before .before .put-short .ensures) (put-put (c .before .before .before .before .before .before .before .before .before .before .before .before .before .before .put-short2 .ensures) (put-put (c .before .before .before .before .before .before .before .before .before .before .put-short3 .ensures) (put-put (c .before .before .before .before .before .before .put-short4 .ensures) (put-put (c .before .before .put-short5 .ensures) (put-nothing _ _)))))))
@@ -47,13 +35,5 @@ pub put-start-spec : {M : Type 1} → statement M
 put-start-spec =
     tie.close
     (tie.spec
-    slice-aggregate-put-text
-    put-text-requires
-    put-word-requires
-    put-short-requires
-    put-short-requires-2
-    put-short-requires-3
-    put-short-requires-4
-    put-short-requires-5
-    same-length
-    returns)
+    (λ c. search needs) (λ c κs. search needs) (λ c κs. search needs) put-short-requires put-short-requires-2
+    put-short-requires-3 put-short-requires-4 put-short-requires-5 (λ c. search needs) returns)

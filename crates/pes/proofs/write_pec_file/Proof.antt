@@ -9,23 +9,11 @@ use borrow.Author.Needs.{needs}
 use Rattle.pes.proofs.write_pec_file.Statement.{statement}
 use Rattle.pes.proofs.write_pec_file.Tie as tie
 
-check-list-requires : tie.Need-check-list-requires
-check-list-requires c κs = search needs
-
-enum-told : tie.Need-enum-told
-enum-told c = search needs
-
 pec-accepted-requires : tie.Need-pec-accepted-requires
 pec-accepted-requires c κs =
     let a = c .before .before .before .before .before .before .before .before .args in
     let g = fine Pec (now (a .xs)) (now (a .ys)) (now (a .kinds)) (now (a .threads)) (sym (c .before .before .before .check-list .ensures) ∙ c .before .enum-told .given .1) in
     (g .long, (g .few, g .steps))
-
-enum-known-checked : tie.Need-enum-known-checked
-enum-known-checked c = search needs
-
-same-length : tie.Need-same-length
-same-length c = search needs
 
 returns : tie.Need-returns
 unfolding fileOf
@@ -46,10 +34,5 @@ pub write-pec-file-spec : {M : Type 1} → statement M
 write-pec-file-spec =
     tie.close
     (tie.spec
-    check-list-requires
-    enum-told
-    pec-accepted-requires
-    enum-known-checked
-    same-length
-    returns
+    (λ c κs. search needs) (λ c. search needs) pec-accepted-requires (λ c. search needs) (λ c. search needs) returns
     returns-2)

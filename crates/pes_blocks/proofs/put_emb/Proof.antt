@@ -7,12 +7,6 @@ use borrow.Author.Needs.{needs}
 use Rattle.pes_blocks.proofs.put_emb.Statement.{statement}
 use Rattle.pes_blocks.proofs.put_emb.Tie as tie
 
-put-short-requires : tie.Need-put-short-requires
-put-short-requires c κs = search needs
-
-slice-aggregate-put-text : tie.Need-slice-aggregate-put-text
-slice-aggregate-put-text c = search needs
-
 put-text-requires : tie.Need-put-text-requires
 unfolding little
 put-text-requires c κs = omega (arith, put-length (c .before .before .before .before .put-short .ensures))
@@ -20,9 +14,6 @@ put-text-requires c κs = omega (arith, put-length (c .before .before .before .b
 put-times-requires : tie.Need-put-times-requires
 unfolding little
 put-times-requires c κs = omega (arith, put-length (c .before .before .before .before .before .before .before .before .put-short .ensures), put-length (c .before .before .before .put-text .ensures))
-
-same-length : tie.Need-same-length
-same-length c = search needs
 
 returns : tie.Need-returns
 unfolding joined shorts pesString little
@@ -32,9 +23,4 @@ pub put-emb-spec : {M : Type 1} → statement M
 put-emb-spec =
     tie.close
     (tie.spec
-    put-short-requires
-    slice-aggregate-put-text
-    put-text-requires
-    put-times-requires
-    same-length
-    returns)
+    (λ c κs. search needs) (λ c. search needs) put-text-requires put-times-requires (λ c. search needs) returns)

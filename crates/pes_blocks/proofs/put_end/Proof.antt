@@ -30,13 +30,10 @@ put-times-requires c κs =
     let ts = threadsOf (now (a .threads)) in
     room-zeros (a .n) ts cs (now (a .out)) (a .at) (c .before .before .before .before .before .before .before .before .before .before .before .before .pre .1 .1) (c .before .before .before .before .before .before .before .put-short .ensures) (c .before .before .before .put-log .ensures)
 
-same-length : tie.Need-same-length
-same-length c = search needs
-
 returns : tie.Need-returns
 unfolding joined shorts little
 returns c = put-put (c .before .before .before .before .before .before .before .before .before .before .put-short .ensures) (put-put (c .before .before .before .before .before .before .put-log .ensures) (put-put (c .before .before .put-times .ensures) (put-nothing _ _)))
 
 pub put-end-spec : {M : Type 1} → statement M
 put-end-spec =
-    tie.close (tie.spec put-short-requires put-log-requires put-times-requires same-length returns)
+    tie.close (tie.spec put-short-requires put-log-requires put-times-requires (λ c. search needs) returns)

@@ -15,17 +15,8 @@ use Rattle.pes_blocks.proofs.put_field.Tie as tie
 abbrev bytes : Float → List ℕ
 bytes x = little 4 (toBits binary32 x)
 
-half-requires : tie.Need-half-requires
-half-requires c κs = search needs
-
 float-to-bits-put-word : tie.Need-float-to-bits-put-word
 float-to-bits-put-word c = no-nan (c .before .before .before .args .z) (c .before .before .before .pre .0) (rw (toZ-ofZ (c .before .before .before .fits .z)) at (c .half .ensures))
-
-put-word-requires : tie.Need-put-word-requires
-put-word-requires c κs = search needs
-
-same-length : tie.Need-same-length
-same-length c = search needs
 
 returns : tie.Need-returns
 unfolding matrixField
@@ -33,4 +24,6 @@ returns c = put-as (c .before .before .put-word .ensures) (ap bytes (rw (toZ-ofZ
 
 pub put-field-spec : {M : Type 1} → statement M
 put-field-spec =
-    tie.close (tie.spec half-requires float-to-bits-put-word put-word-requires same-length returns)
+    tie.close
+    (tie.spec
+    (λ c κs. search needs) float-to-bits-put-word (λ c κs. search needs) (λ c. search needs) returns)

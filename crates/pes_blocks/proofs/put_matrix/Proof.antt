@@ -9,9 +9,6 @@ use borrow.Author.Needs.{needs}
 use Rattle.pes_blocks.proofs.put_matrix.Statement.{statement}
 use Rattle.pes_blocks.proofs.put_matrix.Tie as tie
 
-put-field-requires : tie.Need-put-field-requires
-put-field-requires c κs = search needs
-
 put-field-requires-2 : tie.Need-put-field-requires-2
 unfolding matrixField little
 put-field-requires-2 c κs = (omega arith, omega (arith, put-length (c .before .before .before .put-field .ensures)))
@@ -24,9 +21,6 @@ put-field-requires-4 : tie.Need-put-field-requires-4
 unfolding matrixField little
 put-field-requires-4 c κs = (omega arith, omega (arith, put-length (c .before .before .before .before .before .before .before .before .before .before .before .put-field .ensures), put-length (c .before .before .before .before .before .before .before .put-field2 .ensures), put-length (c .before .before .before .put-field3 .ensures)))
 
-cast-put-field : tie.Need-cast-put-field
-cast-put-field c = search needs
-
 sub-put-field : tie.Need-sub-put-field
 sub-put-field c = minus-fits (c .before .before .before .before .before .before .before .before .before .before .before .before .before .before .before .before .before .pre .0 .0)
 
@@ -34,18 +28,9 @@ put-field-requires-5 : tie.Need-put-field-requires-5
 unfolding matrixField little
 put-field-requires-5 c κs = (minus-small (c .before .before .before .before .before .before .before .before .before .before .before .before .before .before .before .before .before .before .pre .0 .0), omega (arith, put-length (c .before .before .before .before .before .before .before .before .before .before .before .before .before .before .before .put-field .ensures), put-length (c .before .before .before .before .before .before .before .before .before .before .before .put-field2 .ensures), put-length (c .before .before .before .before .before .before .before .put-field3 .ensures), put-length (c .before .before .before .put-field4 .ensures)))
 
-add-put-field : tie.Need-add-put-field
-add-put-field c = search needs
-
-cast-put-field-2 : tie.Need-cast-put-field-2
-cast-put-field-2 c = search needs
-
 put-field-requires-6 : tie.Need-put-field-requires-6
 unfolding matrixField little
 put-field-requires-6 c κs = (plus-small (c .before .before .before .before .before .before .before .before .before .before .before .before .before .before .before .before .before .before .before .before .before .before .pre .0 .1), omega (arith, put-length (c .before .before .before .before .before .before .before .before .before .before .before .before .before .before .before .before .before .before .before .put-field .ensures), put-length (c .before .before .before .before .before .before .before .before .before .before .before .before .before .before .before .put-field2 .ensures), put-length (c .before .before .before .before .before .before .before .before .before .before .before .put-field3 .ensures), put-length (c .before .before .before .before .before .before .before .put-field4 .ensures), put-length (c .before .before .before .put-field5 .ensures)))
-
-same-length : tie.Need-same-length
-same-length c = search needs
 
 returns : tie.Need-returns
 unfolding joined
@@ -58,15 +43,6 @@ pub put-matrix-spec : {M : Type 1} → statement M
 put-matrix-spec =
     tie.close
     (tie.spec
-    put-field-requires
-    put-field-requires-2
-    put-field-requires-3
-    put-field-requires-4
-    cast-put-field
-    sub-put-field
-    put-field-requires-5
-    add-put-field
-    cast-put-field-2
-    put-field-requires-6
-    same-length
-    returns)
+    (λ c κs. search needs) put-field-requires-2 put-field-requires-3 put-field-requires-4 (λ c. search needs)
+    sub-put-field put-field-requires-5 (λ c. search needs) (λ c. search needs) put-field-requires-6
+    (λ c. search needs) returns)

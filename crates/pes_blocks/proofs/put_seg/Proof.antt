@@ -7,9 +7,6 @@ use borrow.Author.Needs.{needs}
 use Rattle.pes_blocks.proofs.put_seg.Statement.{statement}
 use Rattle.pes_blocks.proofs.put_seg.Tie as tie
 
-put-short-requires : tie.Need-put-short-requires
-put-short-requires c κs = search needs
-
 put-short-requires-2 : tie.Need-put-short-requires-2
 unfolding little
 put-short-requires-2 c κs = omega (arith, put-length (c .before .before .before .put-short .ensures))
@@ -22,15 +19,9 @@ put-short-requires-4 : tie.Need-put-short-requires-4
 unfolding little
 put-short-requires-4 c κs = omega (arith, put-length (c .before .before .before .before .before .before .before .before .before .before .before .put-short .ensures), put-length (c .before .before .before .before .before .before .before .put-short2 .ensures), put-length (c .before .before .before .put-short3 .ensures))
 
-slice-aggregate-put-text : tie.Need-slice-aggregate-put-text
-slice-aggregate-put-text c = search needs
-
 put-text-requires : tie.Need-put-text-requires
 unfolding little
 put-text-requires c κs = omega (arith, put-length (c .before .before .before .before .before .before .before .before .before .before .before .before .before .before .before .before .put-short .ensures), put-length (c .before .before .before .before .before .before .before .before .before .before .before .before .put-short2 .ensures), put-length (c .before .before .before .before .before .before .before .before .put-short3 .ensures), put-length (c .before .before .before .before .put-short4 .ensures))
-
-same-length : tie.Need-same-length
-same-length c = search needs
 
 returns : tie.Need-returns
 unfolding joined shorts pesString little
@@ -40,11 +31,5 @@ pub put-seg-spec : {M : Type 1} → statement M
 put-seg-spec =
     tie.close
     (tie.spec
-    put-short-requires
-    put-short-requires-2
-    put-short-requires-3
-    put-short-requires-4
-    slice-aggregate-put-text
-    put-text-requires
-    same-length
-    returns)
+    (λ c κs. search needs) put-short-requires-2 put-short-requires-3 put-short-requires-4 (λ c. search needs)
+    put-text-requires (λ c. search needs) returns)

@@ -7,9 +7,6 @@ use borrow.Author.Needs.{needs}
 use Rattle.pes_blocks.proofs.put_sizes.Statement.{statement}
 use Rattle.pes_blocks.proofs.put_sizes.Tie as tie
 
-put-short-requires : tie.Need-put-short-requires
-put-short-requires c κs = search needs
-
 put-short-requires-2 : tie.Need-put-short-requires-2
 unfolding little
 put-short-requires-2 c κs = omega (arith, put-length (c .before .before .before .put-short .ensures))
@@ -30,9 +27,6 @@ put-times-requires : tie.Need-put-times-requires
 unfolding little
 put-times-requires c κs = omega (arith, put-length (c .before .before .before .before .before .before .before .before .before .before .before .before .before .before .before .before .before .before .before .put-short .ensures), put-length (c .before .before .before .before .before .before .before .before .before .before .before .before .before .before .before .put-short2 .ensures), put-length (c .before .before .before .before .before .before .before .before .before .before .before .put-short3 .ensures), put-length (c .before .before .before .before .before .before .before .put-short4 .ensures), put-length (c .before .before .before .put-short5 .ensures))
 
-same-length : tie.Need-same-length
-same-length c = search needs
-
 returns : tie.Need-returns
 unfolding joined shorts little
 returns c = put-put (c .before .before .before .before .before .before .before .before .before .before .before .before .before .before .before .before .before .before .before .before .before .before .put-short .ensures) (put-put (c .before .before .before .before .before .before .before .before .before .before .before .before .before .before .before .before .before .before .put-short2 .ensures) (put-put (c .before .before .before .before .before .before .before .before .before .before .before .before .before .before .put-short3 .ensures) (put-put (c .before .before .before .before .before .before .before .before .before .before .put-short4 .ensures) (put-put (c .before .before .before .before .before .before .put-short5 .ensures) (put-put (c .before .before .put-times .ensures) (put-nothing _ _))))))
@@ -41,11 +35,5 @@ pub put-sizes-spec : {M : Type 1} → statement M
 put-sizes-spec =
     tie.close
     (tie.spec
-    put-short-requires
-    put-short-requires-2
-    put-short-requires-3
-    put-short-requires-4
-    put-short-requires-5
-    put-times-requires
-    same-length
-    returns)
+    (λ c κs. search needs) put-short-requires-2 put-short-requires-3 put-short-requires-4 put-short-requires-5
+    put-times-requires (λ c. search needs) returns)

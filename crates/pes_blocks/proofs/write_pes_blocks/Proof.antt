@@ -9,12 +9,6 @@ use borrow.Author.Needs.{needs}
 use Rattle.pes_blocks.proofs.write_pes_blocks.Statement.{statement}
 use Rattle.pes_blocks.proofs.write_pes_blocks.Tie as tie
 
-spread-requires : tie.Need-spread-requires
-spread-requires c κs = search needs
-
-spread-requires-2 : tie.Need-spread-requires-2
-spread-requires-2 c κs = search needs
-
 put-frame-requires : tie.Need-put-frame-requires
 put-frame-requires c κs =
     let a = c .before .before .before .before .before .before .before .before .before .before .args in
@@ -54,9 +48,6 @@ put-end-requires c κs =
       ),
     )
 
-same-length : tie.Need-same-length
-same-length c = search needs
-
 returns : tie.Need-returns
 returns c =
     let a = c .before .before .before .before .before .before .before .before .before .before .before .before .before .before .before .before .before .before .before .before .before .before .before .args in
@@ -73,10 +64,5 @@ pub write-pes-blocks-spec : {M : Type 1} → statement M
 write-pes-blocks-spec =
     tie.close
     (tie.spec
-    spread-requires
-    spread-requires-2
-    put-frame-requires
-    put-sections-requires
-    put-end-requires
-    same-length
-    returns)
+    (λ c κs. search needs) (λ c κs. search needs) put-frame-requires put-sections-requires put-end-requires
+    (λ c. search needs) returns)

@@ -6,12 +6,6 @@ use borrow.Author.Needs.{needs}
 use Rattle.pes_cmd.proofs.changed.Statement.{statement}
 use Rattle.pes_cmd.proofs.changed.Tie as tie
 
-code-at-requires : tie.Need-code-at-requires
-code-at-requires c κs = search needs
-
-add-t12 : tie.Need-add-t12
-add-t12 c = search needs
-
 returns : tie.Need-returns
 unfolding pesNext
 returns c =
@@ -29,4 +23,4 @@ returns-2 c =
     rw (x, y, c .before .if1 .left)
 
 pub changed-spec : {M : Type 1} → statement M
-changed-spec = tie.close (tie.spec code-at-requires add-t12 returns returns-2)
+changed-spec = tie.close (tie.spec (λ c κs. search needs) (λ c. search needs) returns returns-2)

@@ -23,27 +23,6 @@ none sections new Trim k = refl
 none sections new ColorChange k = refl
 none sections new End k = refl
 
-op-of-requires : tie.Need-op-of-requires
-op-of-requires c κs = search needs
-
-enum-told : tie.Need-enum-told
-enum-told c = search needs
-
-open-len-requires : tie.Need-open-len-requires
-open-len-requires c κs = search needs
-
-add-result : tie.Need-add-result
-add-result c = search needs
-
-enum-told-2 : tie.Need-enum-told-2
-enum-told-2 c = search needs
-
-open-len-requires-2 : tie.Need-open-len-requires-2
-open-len-requires-2 c κs = search needs
-
-add-result-2 : tie.Need-add-result-2
-add-result-2 c = search needs
-
 returns : tie.Need-returns
 unfolding cmdLen
 returns c =
@@ -77,15 +56,5 @@ pub cmd-len-spec : {M : Type 1} → statement M
 cmd-len-spec =
     tie.close
     (tie.spec
-    op-of-requires
-    enum-told
-    open-len-requires
-    add-result
-    enum-told-2
-    open-len-requires-2
-    add-result-2
-    returns
-    returns-2
-    returns-3
-    returns-4
-    returns-5)
+    (λ c κs. search needs) (λ c. search needs) (λ c κs. search needs) (λ c. search needs) (λ c. search needs)
+    (λ c κs. search needs) (λ c. search needs) returns returns-2 returns-3 returns-4 returns-5)

@@ -5,9 +5,6 @@ use borrow.Author.Needs.{needs}
 use Rattle.pes_cmd.proofs.is_logged.Statement.{statement}
 use Rattle.pes_cmd.proofs.is_logged.Tie as tie
 
-opens-section-requires : tie.Need-opens-section-requires
-opens-section-requires c κs = search needs
-
 returns : tie.Need-returns
 unfolding logs
 returns c = rw (sym (c .before .opens-section .ensures) ∙ c .if1 .taken)
@@ -17,4 +14,4 @@ unfolding logs
 returns-2 c = rw (sym (c .before .opens-section .ensures) ∙ c .if1 .left)
 
 pub is-logged-spec : {M : Type 1} → statement M
-is-logged-spec = tie.close (tie.spec opens-section-requires returns returns-2)
+is-logged-spec = tie.close (tie.spec (λ c κs. search needs) returns returns-2)

@@ -29,9 +29,6 @@ other new Trim k = refl
 other new ColorChange k = refl
 other new End k = refl
 
-op-of-requires : tie.Need-op-of-requires
-op-of-requires c κs = search needs
-
 returns : tie.Need-returns
 returns c = rw (← c .before .op-of .ensures) (sewn (c .before .before .args .new) _ (c .match .keys1))
 
@@ -39,4 +36,4 @@ returns-2 : tie.Need-returns-2
 returns-2 c = rw (← c .before .op-of .ensures) (other (c .before .before .args .new) _ (c .match .keys2))
 
 pub opens-section-spec : {M : Type 1} → statement M
-opens-section-spec = tie.close (tie.spec op-of-requires returns returns-2)
+opens-section-spec = tie.close (tie.spec (λ c κs. search needs) returns returns-2)

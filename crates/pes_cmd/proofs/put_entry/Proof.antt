@@ -19,9 +19,6 @@ put-short-requires-2 c κs =
     let r = rw (c .before .before .before .before .before .if1 .taken) at (c .before .before .before .before .before .before .before .pre) in
     omega (arith, p .ends, put-length p)
 
-same-length : tie.Need-same-length
-same-length c = search needs
-
 returns : tie.Need-returns
 unfolding shorts joined little
 returns c =
@@ -33,4 +30,4 @@ returns-2 c = let a = c .before .before .args in rw (c .if1 .left) (put-nothing 
 
 pub put-entry-spec : {M : Type 1} → statement M
 put-entry-spec =
-    tie.close (tie.spec put-short-requires put-short-requires-2 same-length returns returns-2)
+    tie.close (tie.spec put-short-requires put-short-requires-2 (λ c. search needs) returns returns-2)

@@ -33,9 +33,6 @@ put-short-requires-3 c κs =
     let p = put-put (c .before .before .before .before .before .before .before .before .before .before .before .put-between .ensures) (put-put (c .before .before .before .before .before .before .before .put-short .ensures) (c .before .before .before .put-short2 .ensures)) in
     omega (arith, s .pre, open-long (stateOf (s .args .s)) (s .args .flag) (s .args .points), length-little 2 (s .args .flag), length-little 2 (s .args .s .code), put-length p)
 
-same-length : tie.Need-same-length
-same-length c = search needs
-
 returns : tie.Need-returns
 unfolding pesOpen joined
 returns c =
@@ -48,9 +45,4 @@ pub put-open-spec : {M : Type 1} → statement M
 put-open-spec =
     tie.close
     (tie.spec
-    put-between-requires
-    put-short-requires
-    put-short-requires-2
-    put-short-requires-3
-    same-length
-    returns)
+    put-between-requires put-short-requires put-short-requires-2 put-short-requires-3 (λ c. search needs) returns)

@@ -14,9 +14,6 @@ sub-low16 c = let s = c .before .before in diff-fits (s .fits .x) (s .fits .left
 low16-requires : tie.Need-low16-requires
 low16-requires c κs = let s = c .before .before in rw (diff-is (s .fits .x) (s .fits .left) (s .pre .0 .across)) (s .pre .0 .across)
 
-put-short-requires : tie.Need-put-short-requires
-put-short-requires c κs = search needs
-
 sub-low16-2 : tie.Need-sub-low16-2
 sub-low16-2 c = let s = c .before .before .before .before .before .before .before in diff-fits (s .fits .y) (s .fits .bottom) (s .pre .0 .up)
 
@@ -27,9 +24,6 @@ put-short-requires-2 : tie.Need-put-short-requires-2
 put-short-requires-2 c κs =
     let p = c .before .before .before .before .put-short .ensures in
     omega (arith, c .before .before .before .before .before .before .before .before .pre .1, p .ends, put-length p, length-little 2 (c .before .before .before .before .before .low16 .result))
-
-same-length : tie.Need-same-length
-same-length c = search needs
 
 returns : tie.Need-returns
 unfolding pesPoint
@@ -43,11 +37,5 @@ pub put-point-spec : {M : Type 1} → statement M
 put-point-spec =
     tie.close
     (tie.spec
-    sub-low16
-    low16-requires
-    put-short-requires
-    sub-low16-2
-    low16-requires-2
-    put-short-requires-2
-    same-length
-    returns)
+    sub-low16 low16-requires (λ c κs. search needs) sub-low16-2 low16-requires-2 put-short-requires-2
+    (λ c. search needs) returns)

@@ -4,12 +4,9 @@ use Rattle.rules.specs.Pes.{pesStart}
 use Rattle.pes_cmd.proofs.start.Statement.{statement}
 use Rattle.pes_cmd.proofs.start.Tie as tie
 
-code-at-requires : tie.Need-code-at-requires
-code-at-requires c κs = search needs
-
 returns : tie.Need-returns
 unfolding pesStart
 returns c = rw (c .code-at .ensures)
 
 pub start-spec : {M : Type 1} → statement M
-start-spec = tie.close (tie.spec code-at-requires returns)
+start-spec = tie.close (tie.spec (λ c κs. search needs) returns)

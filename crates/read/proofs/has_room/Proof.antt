@@ -6,28 +6,13 @@ use borrow.Author.Needs.{needs}
 use Rattle.read.proofs.has_room.Statement.{statement}
 use Rattle.read.proofs.has_room.Tie as tie
 
-cast-if1 : tie.Need-cast-if1
-cast-if1 c = search needs
-
-mul-if1 : tie.Need-mul-if1
-mul-if1 c = search needs
-
 returns : tie.Need-returns
 unfolding roomFor
 returns c = let a = c .before .before .args in rw (lt-leb (2 * a .c .points) (a .places) (c .if1 .taken))
 
-cast-if2 : tie.Need-cast-if2
-cast-if2 c = search needs
-
 returns-2 : tie.Need-returns-2
 unfolding roomFor
 returns-2 c = let a = c .before .before .before .before .args in rw (le-leb (2 * a .c .points) (a .places) (c .before .before .if1 .left), lt-leb (a .c .runs) (a .runs) (c .if2 .taken))
-
-cast-result : tie.Need-cast-result
-cast-result c = search needs
-
-mul-result : tie.Need-mul-result
-mul-result c = search needs
 
 returns-3 : tie.Need-returns-3
 unfolding roomFor
@@ -36,4 +21,4 @@ returns-3 c = let a = c .before .before .before .before .before .args in rw (le-
 pub has-room-spec : {M : Type 1} → statement M
 has-room-spec =
     tie.close
-    (tie.spec cast-if1 mul-if1 returns cast-if2 returns-2 cast-result mul-result returns-3)
+    (tie.spec (λ c. search needs) (λ c. search needs) returns (λ c. search needs) returns-2 (λ c. search needs) (λ c. search needs) returns-3)

@@ -16,25 +16,10 @@ use borrow.Author.Needs.{needs}
 use Rattle.read.proofs.jef_stitches.Statement.{statement}
 use Rattle.read.proofs.jef_stitches.Tie as tie
 
-i32le-requires : tie.Need-i32le-requires
-i32le-requires c κs = search needs
-
-enum-known-word : tie.Need-enum-known-word
-enum-known-word c = search needs
-
-enum-told : tie.Need-enum-told
-enum-told c = search needs
-
-slice-aggregate-result : tie.Need-slice-aggregate-result
-slice-aggregate-result c = search needs
-
 returns : tie.Need-returns
 returns c =
     let s = now (c .before .before .before .before .before .args .file) in
     absurd (omega (arith, c .before .before .before .before .before .pre, leb-false 4 (length s) (word-missing 0 s (sym (c .before .before .before .i32le .ensures) ∙ c .before .enum-told .given .1))))
-
-slice-aggregate-result-2 : tie.Need-slice-aggregate-result-2
-slice-aggregate-result-2 c = search needs
 
 returns-2 : tie.Need-returns-2
 returns-2 c =
@@ -46,9 +31,6 @@ returns-2 c =
 
 cast-rest : tie.Need-cast-rest
 cast-rest c = let h = fit w32 (c .before .before .word .given .0 .0) (c .before .known-told .given .0 .1) in omega (ints, seen h)
-
-rest-requires : tie.Need-rest-requires
-rest-requires c κs = search needs
 
 returns-3 : tie.Need-returns-3
 returns-3 c =
@@ -62,13 +44,5 @@ pub jef-stitches-spec : {M : Type 1} → statement M
 jef-stitches-spec =
     tie.close
     (tie.spec
-    i32le-requires
-    enum-known-word
-    enum-told
-    slice-aggregate-result
-    returns
-    slice-aggregate-result-2
-    returns-2
-    cast-rest
-    rest-requires
-    returns-3)
+    (λ c κs. search needs) (λ c. search needs) (λ c. search needs) (λ c. search needs) returns (λ c. search needs)
+    returns-2 cast-rest (λ c κs. search needs) returns-3)

@@ -6,30 +6,9 @@ use borrow.Author.Needs.{needs}
 use Rattle.read.proofs.read.Statement.{statement}
 use Rattle.read.proofs.read.Tie as tie
 
-extension-of-requires : tie.Need-extension-of-requires
-extension-of-requires c κs = search needs
-
-enum-known-named : tie.Need-enum-known-named
-enum-known-named c = search needs
-
-enum-told : tie.Need-enum-told
-enum-told c = search needs
-
 returns : tie.Need-returns
 unfolding readVerdict verdict readAnswer filled
 returns c = let v = sym (c .before .before .extension-of .ensures) ∙ c .enum-told .given .1 in (rw v, (rw v, (rw v, rw v)))
-
-read-stitch-file-requires : tie.Need-read-stitch-file-requires
-read-stitch-file-requires c κs = search needs
-
-same-length : tie.Need-same-length
-same-length c = search needs
-
-same-length-2 : tie.Need-same-length-2
-same-length-2 c = search needs
-
-same-length-3 : tie.Need-same-length-3
-same-length-3 c = search needs
 
 returns-2 : tie.Need-returns-2
 unfolding placesTold runsTold blocksTold
@@ -39,12 +18,5 @@ pub read-spec : {M : Type 1} → statement M
 read-spec =
     tie.close
     (tie.spec
-    extension-of-requires
-    enum-known-named
-    enum-told
-    returns
-    read-stitch-file-requires
-    same-length
-    same-length-2
-    same-length-3
-    returns-2)
+    (λ c κs. search needs) (λ c. search needs) (λ c. search needs) returns (λ c κs. search needs)
+    (λ c. search needs) (λ c. search needs) (λ c. search needs) returns-2)

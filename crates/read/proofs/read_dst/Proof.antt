@@ -15,15 +15,6 @@ use borrow.Author.Needs.{needs}
 use Rattle.read.proofs.read_dst.Statement.{statement}
 use Rattle.read.proofs.read_dst.Tie as tie
 
-slice-aggregate-dst-colors : tie.Need-slice-aggregate-dst-colors
-slice-aggregate-dst-colors c = search needs
-
-dst-colors-requires : tie.Need-dst-colors-requires
-dst-colors-requires c κs = search needs
-
-rest-requires : tie.Need-rest-requires
-rest-requires c κs = search needs
-
 array-share-prefix-colors : tie.Need-array-share-prefix-colors
 array-share-prefix-colors c = omega (arith, c .before .before .dst-colors .ensures .0 .room, c .before .before .dst-colors .kept .1 .0)
 
@@ -32,15 +23,6 @@ slice-aggregate-read-records c = sym (length-take-le (c .before .before .before 
 
 read-records-requires : tie.Need-read-records-requires
 read-records-requires c κs = rw (c .before .before .before .before .rest .ensures) (omega (arith, length-drop 512 (now (c .before .before .before .before .before .before .before .before .before .before .before .args .file)), c .before .before .before .before .before .before .before .before .before .before .before .pre))
-
-same-length : tie.Need-same-length
-same-length c = search needs
-
-same-length-2 : tie.Need-same-length-2
-same-length-2 c = search needs
-
-same-length-3 : tie.Need-same-length-3
-same-length-3 c = search needs
 
 returns : tie.Need-returns
 unfolding placesOf runsOf blocksOf eventsOf firstOf colourOf stored
@@ -54,13 +36,6 @@ pub read-dst-spec : {M : Type 1} → statement M
 read-dst-spec =
     tie.close
     (tie.spec
-    slice-aggregate-dst-colors
-    dst-colors-requires
-    rest-requires
-    array-share-prefix-colors
-    slice-aggregate-read-records
-    read-records-requires
-    same-length
-    same-length-2
-    same-length-3
+    (λ c. search needs) (λ c κs. search needs) (λ c κs. search needs) array-share-prefix-colors
+    slice-aggregate-read-records read-records-requires (λ c. search needs) (λ c. search needs) (λ c. search needs)
     returns)

@@ -13,15 +13,6 @@ use borrow.Author.Needs.{needs}
 use Rattle.read.proofs.read_jef.Statement.{statement}
 use Rattle.read.proofs.read_jef.Tie as tie
 
-slice-aggregate-jef-colors : tie.Need-slice-aggregate-jef-colors
-slice-aggregate-jef-colors c = search needs
-
-jef-colors-requires : tie.Need-jef-colors-requires
-jef-colors-requires c κs = search needs
-
-jef-stitches-requires : tie.Need-jef-stitches-requires
-jef-stitches-requires c κs = search needs
-
 array-share-prefix-colors : tie.Need-array-share-prefix-colors
 array-share-prefix-colors c = omega (arith, c .before .before .jef-colors .ensures .room, c .before .before .jef-colors .kept .1 .0)
 
@@ -30,15 +21,6 @@ slice-aggregate-read-records c = sym (length-take-le (c .before .before .before 
 
 read-records-requires : tie.Need-read-records-requires
 read-records-requires c κs = rw (c .before .before .before .before .jef-stitches .ensures) (omega (arith, jef-shorter (now (c .before .before .before .before .before .before .before .before .before .before .before .args .file)), c .before .before .before .before .before .before .before .before .before .before .before .pre))
-
-same-length : tie.Need-same-length
-same-length c = search needs
-
-same-length-2 : tie.Need-same-length-2
-same-length-2 c = search needs
-
-same-length-3 : tie.Need-same-length-3
-same-length-3 c = search needs
 
 returns : tie.Need-returns
 unfolding placesOf runsOf blocksOf eventsOf firstOf colourOf stored
@@ -52,13 +34,6 @@ pub read-jef-spec : {M : Type 1} → statement M
 read-jef-spec =
     tie.close
     (tie.spec
-    slice-aggregate-jef-colors
-    jef-colors-requires
-    jef-stitches-requires
-    array-share-prefix-colors
-    slice-aggregate-read-records
-    read-records-requires
-    same-length
-    same-length-2
-    same-length-3
+    (λ c. search needs) (λ c κs. search needs) (λ c κs. search needs) array-share-prefix-colors
+    slice-aggregate-read-records read-records-requires (λ c. search needs) (λ c. search needs) (λ c. search needs)
     returns)

@@ -12,18 +12,6 @@ use borrow.Author.Needs.{needs}
 use Rattle.read.proofs.read_pec.Statement.{statement}
 use Rattle.read.proofs.read_pec.Tie as tie
 
-slice-aggregate-pec-colors : tie.Need-slice-aggregate-pec-colors
-slice-aggregate-pec-colors c = search needs
-
-pec-colors-requires : tie.Need-pec-colors-requires
-pec-colors-requires c κs = search needs
-
-add-rest : tie.Need-add-rest
-add-rest c = search needs
-
-rest-requires : tie.Need-rest-requires
-rest-requires c κs = search needs
-
 array-share-prefix-colors : tie.Need-array-share-prefix-colors
 array-share-prefix-colors c = omega (arith, c .before .before .pec-colors .ensures .0 .room, c .before .before .pec-colors .kept .1 .1 .0)
 
@@ -34,15 +22,6 @@ read-records-requires : tie.Need-read-records-requires
 read-records-requires c κs =
     let a = c .before .before .before .before .before .before .before .before .before .before .before .args in
     rw (c .before .before .before .before .rest .ensures) (omega (arith, length-drop (a .start + 528) (now (a .file)), c .before .before .before .before .before .before .before .before .before .before .before .pre))
-
-same-length : tie.Need-same-length
-same-length c = search needs
-
-same-length-2 : tie.Need-same-length-2
-same-length-2 c = search needs
-
-same-length-3 : tie.Need-same-length-3
-same-length-3 c = search needs
 
 returns : tie.Need-returns
 returns c =
@@ -55,14 +34,6 @@ pub read-pec-spec : {M : Type 1} → statement M
 read-pec-spec =
     tie.close
     (tie.spec
-    slice-aggregate-pec-colors
-    pec-colors-requires
-    add-rest
-    rest-requires
-    array-share-prefix-colors
-    slice-aggregate-read-records
-    read-records-requires
-    same-length
-    same-length-2
-    same-length-3
+    (λ c. search needs) (λ c κs. search needs) (λ c. search needs) (λ c κs. search needs) array-share-prefix-colors
+    slice-aggregate-read-records read-records-requires (λ c. search needs) (λ c. search needs) (λ c. search needs)
     returns)

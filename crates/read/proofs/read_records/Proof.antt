@@ -8,22 +8,10 @@ use borrow.Author.Needs.{needs}
 use Rattle.read.proofs.read_records.Statement.{statement}
 use Rattle.read.proofs.read_records.Tie as tie
 
-ample-requires : tie.Need-ample-requires
-ample-requires c κs = search needs
-
 fill-requires : tie.Need-fill-requires
 fill-requires c κs =
     let a = c .before .before .before .before .before .before .before .before .before .args in
     (c .before .before .before .before .before .before .before .before .before .pre, ample-fits (a .f) (colourIn (now (a .colors))) (now (a .bytes)) _ _ _ (c .before .before .before .before .ample .ensures (c .before .before .before .if1 .taken)))
-
-same-length : tie.Need-same-length
-same-length c = search needs
-
-same-length-2 : tie.Need-same-length-2
-same-length-2 c = search needs
-
-same-length-3 : tie.Need-same-length-3
-same-length-3 c = search needs
 
 returns : tie.Need-returns
 returns c =
@@ -32,25 +20,10 @@ returns c =
     let w = c .before .before .before .before .before .fill .ensures in
     given-read c′ (w .0) (ample-fits (a .f) c′ (now (a .bytes)) _ _ _ (c .before .before .before .before .before .before .before .before .before .before .ample .ensures (c .before .before .before .before .before .before .before .before .before .if1 .taken))) (w .1 .0) (w .1 .1 .0) (w .1 .1 .1)
 
-count-requires : tie.Need-count-requires
-count-requires c κs = search needs
-
-has-room-requires : tie.Need-has-room-requires
-has-room-requires c κs = search needs
-
 fill-requires-2 : tie.Need-fill-requires-2
 fill-requires-2 c κs =
     let a = c .before .before .before .before .before .before .before .before .before .before .before .before .args in
     (c .before .before .before .before .before .before .before .before .before .before .before .before .pre, fits-told (colourIn (now (a .colors))) (c .before .before .before .before .before .count .ensures) _ _ _ (sym (c .before .before .before .before .has-room .ensures) ∙ c .before .before .before .if2 .taken))
-
-same-length-4 : tie.Need-same-length-4
-same-length-4 c = search needs
-
-same-length-5 : tie.Need-same-length-5
-same-length-5 c = search needs
-
-same-length-6 : tie.Need-same-length-6
-same-length-6 c = search needs
 
 returns-2 : tie.Need-returns-2
 returns-2 c =
@@ -66,17 +39,6 @@ pub read-records-spec : {M : Type 1} → statement M
 read-records-spec =
     tie.close
     (tie.spec
-    ample-requires
-    fill-requires
-    same-length
-    same-length-2
-    same-length-3
-    returns
-    count-requires
-    has-room-requires
-    fill-requires-2
-    same-length-4
-    same-length-5
-    same-length-6
-    returns-2
-    returns-3)
+    (λ c κs. search needs) fill-requires (λ c. search needs) (λ c. search needs) (λ c. search needs) returns
+    (λ c κs. search needs) (λ c κs. search needs) fill-requires-2 (λ c. search needs) (λ c. search needs)
+    (λ c. search needs) returns-2 returns-3)

@@ -8,26 +8,8 @@ use borrow.Author.Needs.{needs}
 use Rattle.read.proofs.read_stitch_file.Statement.{statement}
 use Rattle.read.proofs.read_stitch_file.Tie as tie
 
-front-requires : tie.Need-front-requires
-front-requires c κs = search needs
-
-enum-known-found : tie.Need-enum-known-found
-enum-known-found c = search needs
-
 read-part-requires : tie.Need-read-part-requires
 read-part-requires c κs = let a = c .before .before .before .before .before .before .before .before .before .before .args in opened (a .f) (now (a .file)) (sym (c .before .before .before .before .before .before .front .ensures) ∙ c .before .before .before .before .found .given .1)
-
-enum-known-found-2 : tie.Need-enum-known-found-2
-enum-known-found-2 c = search needs
-
-same-length : tie.Need-same-length
-same-length c = search needs
-
-same-length-2 : tie.Need-same-length-2
-same-length-2 c = search needs
-
-same-length-3 : tie.Need-same-length-3
-same-length-3 c = search needs
 
 returns : tie.Need-returns
 returns c =
@@ -48,12 +30,5 @@ pub read-stitch-file-spec : {M : Type 1} → statement M
 read-stitch-file-spec =
     tie.close
     (tie.spec
-    front-requires
-    enum-known-found
-    read-part-requires
-    enum-known-found-2
-    same-length
-    same-length-2
-    same-length-3
-    returns
-    returns-2)
+    (λ c κs. search needs) (λ c. search needs) read-part-requires (λ c. search needs) (λ c. search needs)
+    (λ c. search needs) (λ c. search needs) returns returns-2)

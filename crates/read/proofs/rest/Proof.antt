@@ -8,9 +8,6 @@ use borrow.Author.Needs.{needs}
 use Rattle.read.proofs.rest.Statement.{statement}
 use Rattle.read.proofs.rest.Tie as tie
 
-part-requires : tie.Need-part-requires
-part-requires c κs = search needs
-
 returns : tie.Need-returns
 returns c =
     let a = c .before .before .args in
@@ -18,4 +15,4 @@ returns c =
     c .part .ensures ∙ take-all (length s) (drop (a .from) s) (omega (arith, length-drop (a .from) s))
 
 pub rest-spec : {M : Type 1} → statement M
-rest-spec = tie.close (tie.spec part-requires returns)
+rest-spec = tie.close (tie.spec (λ c κs. search needs) returns)

@@ -9,27 +9,6 @@ use borrow.Author.Needs.{needs}
 use Rattle.records.proofs.record_at.Statement.{statement}
 use Rattle.records.proofs.record_at.Tie as tie
 
-pec-record-requires : tie.Need-pec-record-requires
-pec-record-requires c κs = search needs
-
-enum-told : tie.Need-enum-told
-enum-told c = search needs
-
-dst-record-requires : tie.Need-dst-record-requires
-dst-record-requires c κs = search needs
-
-enum-told-2 : tie.Need-enum-told-2
-enum-told-2 c = search needs
-
-exp-record-requires : tie.Need-exp-record-requires
-exp-record-requires c κs = search needs
-
-enum-told-3 : tie.Need-enum-told-3
-enum-told-3 c = search needs
-
-exp-record-requires-2 : tie.Need-exp-record-requires-2
-exp-record-requires-2 c κs = search needs
-
 returns : tie.Need-returns
 unfolding firstOf
 returns c =
@@ -53,14 +32,5 @@ pub record-at-spec : {M : Type 1} → statement M
 record-at-spec =
     tie.close
     (tie.spec
-    pec-record-requires
-    enum-told
-    dst-record-requires
-    enum-told-2
-    exp-record-requires
-    enum-told-3
-    exp-record-requires-2
-    returns
-    returns-2
-    returns-3
-    returns-4)
+    (λ c κs. search needs) (λ c. search needs) (λ c κs. search needs) (λ c. search needs) (λ c κs. search needs)
+    (λ c. search needs) (λ c κs. search needs) returns returns-2 returns-3 returns-4)

@@ -5,21 +5,6 @@ use borrow.Author.Needs.{needs}
 use Rattle.scales.proofs.scale_by.Statement.{statement}
 use Rattle.scales.proofs.scale_by.Tie as tie
 
-span-of-requires : tie.Need-span-of-requires
-span-of-requires c κs = search needs
-
-at-least-one-requires : tie.Need-at-least-one-requires
-at-least-one-requires c κs = search needs
-
-span-of-requires-2 : tie.Need-span-of-requires-2
-span-of-requires-2 c κs = search needs
-
-at-least-one-requires-2 : tie.Need-at-least-one-requires-2
-at-least-one-requires-2 c κs = search needs
-
-lesser-requires : tie.Need-lesser-requires
-lesser-requires c κs = search needs
-
 returns : tie.Need-returns
 returns c =
     let f = c .before .before .before .before .before .fits in
@@ -30,9 +15,5 @@ pub scale-by-spec : {M : Type 1} → statement M
 scale-by-spec =
     tie.close
     (tie.spec
-    span-of-requires
-    at-least-one-requires
-    span-of-requires-2
-    at-least-one-requires-2
-    lesser-requires
-    returns)
+    (λ c κs. search needs) (λ c κs. search needs) (λ c κs. search needs) (λ c κs. search needs)
+    (λ c κs. search needs) returns)

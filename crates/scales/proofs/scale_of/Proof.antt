@@ -5,21 +5,6 @@ use borrow.Author.Needs.{needs}
 use Rattle.scales.proofs.scale_of.Statement.{statement}
 use Rattle.scales.proofs.scale_of.Tie as tie
 
-scale-by-requires : tie.Need-scale-by-requires
-scale-by-requires c κs = search needs
-
-middle-requires : tie.Need-middle-requires
-middle-requires c κs = search needs
-
-offset-requires : tie.Need-offset-requires
-offset-requires c κs = search needs
-
-middle-requires-2 : tie.Need-middle-requires-2
-middle-requires-2 c κs = search needs
-
-offset-requires-2 : tie.Need-offset-requires-2
-offset-requires-2 c κs = search needs
-
 returns : tie.Need-returns
 returns c =
     let f = c .before .before .before .before .before .fits in
@@ -30,9 +15,5 @@ pub scale-of-spec : {M : Type 1} → statement M
 scale-of-spec =
     tie.close
     (tie.spec
-    scale-by-requires
-    middle-requires
-    offset-requires
-    middle-requires-2
-    offset-requires-2
-    returns)
+    (λ c κs. search needs) (λ c κs. search needs) (λ c κs. search needs) (λ c κs. search needs)
+    (λ c κs. search needs) returns)

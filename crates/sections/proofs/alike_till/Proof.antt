@@ -48,13 +48,4 @@ pub alike-till-spec : {M : Type 1} → statement M
 alike-till-spec =
     tie.close
     (tie.spec
-    Inv-loop
-    μ-loop
-    loop-holds
-    add-loop
-    are-alike-requires
-    returns
-    add-k
-    loop-less
-    loop-again
-    returns-2)
+    Inv-loop μ-loop loop-holds add-loop are-alike-requires returns add-k loop-less loop-again returns-2)

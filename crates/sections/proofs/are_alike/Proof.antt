@@ -50,12 +50,4 @@ pub are-alike-spec : {M : Type 1} → statement M
 are-alike-spec =
     tie.close
     (tie.spec
-    Inv-loop
-    μ-loop
-    loop-holds
-    add-loop
-    shared-slice-read-all
-    add-k
-    loop-less
-    loop-again
-    returns)
+    Inv-loop μ-loop loop-holds add-loop shared-slice-read-all add-k loop-less loop-again returns)

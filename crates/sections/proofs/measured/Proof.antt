@@ -172,32 +172,7 @@ pub measured-spec : {M : Type 1} → statement M
 measured-spec =
     tie.close
     (tie.spec
-    Inv-loop
-    μ-loop
-    list-len-requires
-    start-requires
-    loop-holds
-    shared-slice-read-kind
-    is-new-requires
-    goes-on-requires
-    run-end-requires
-    sub-bytes
-    mul-bytes
-    add-bytes
-    loop-less
-    loop-again
-    is-logged-requires
-    cmd-len-requires
-    add-bytes-2
-    one-if-requires
-    add-logged
-    last-code-requires
-    mul-next
-    shared-slice-copy-out-next
-    mul-next-2
-    shared-slice-copy-out-next-2
-    next-requires
-    add-i
-    loop-less-2
-    loop-again-2
-    returns)
+    Inv-loop μ-loop list-len-requires start-requires loop-holds shared-slice-read-kind is-new-requires
+    goes-on-requires run-end-requires sub-bytes mul-bytes add-bytes loop-less loop-again is-logged-requires
+    cmd-len-requires add-bytes-2 one-if-requires add-logged last-code-requires mul-next shared-slice-copy-out-next
+    mul-next-2 shared-slice-copy-out-next-2 next-requires add-i loop-less-2 loop-again-2 returns)

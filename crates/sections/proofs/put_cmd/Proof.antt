@@ -34,12 +34,6 @@ shared-slice-read-op-of c =
     let a = c .before .before .before .args in
     omega (arith, length-commands (now (a .xs)) (now (a .ys)) (now (a .kinds)))
 
-op-of-requires : tie.Need-op-of-requires
-op-of-requires c κs = search needs
-
-enum-told : tie.Need-enum-told
-enum-told c = search needs
-
 put-stitch-requires : tie.Need-put-stitch-requires
 put-stitch-requires c κs =
     let s = c .before .before .before .before .before .before .before in
@@ -48,26 +42,17 @@ put-stitch-requires c κs =
     rw (toZ-ofZ (s .fits .left), toZ-ofZ (s .fits .bottom))
     (s .pre .0, (near-at (now (a .xs)) (now (a .ys)) (now (a .kinds)) (a .i) (s .pre .1 .0 .1) (s .pre .0), rw op at (s .pre .1 .1)))
 
-enum-told-2 : tie.Need-enum-told-2
-enum-told-2 c = search needs
-
 put-jump-requires : tie.Need-put-jump-requires
 put-jump-requires c κs =
     let s = c .before .before .before .before .before .before .before in
     let op = sym (c .before .before .before .op-of .ensures) ∙ c .before .enum-told2 .given .1 in
     rw (toZ-ofZ (s .fits .left), toZ-ofZ (s .fits .bottom)) (s .pre .0, (s .pre .1 .0, rw op at (s .pre .1 .1)))
 
-same-length : tie.Need-same-length
-same-length c = search needs
-
 returns : tie.Need-returns
 returns c =
     let s = c .before .before .before .before .before .before .before .before .before .before in
     let op = sym (c .before .before .before .before .before .before .op-of .ensures) ∙ c .before .before .before .before .enum-told .given .1 in
     rw op (rw (toZ-ofZ (s .fits .left), toZ-ofZ (s .fits .bottom)) at (c .before .before .put-stitch .ensures))
-
-same-length-2 : tie.Need-same-length-2
-same-length-2 c = search needs
 
 returns-2 : tie.Need-returns-2
 returns-2 c =
@@ -84,14 +69,5 @@ pub put-cmd-spec : {M : Type 1} → statement M
 put-cmd-spec =
     tie.close
     (tie.spec
-    shared-slice-read-op-of
-    op-of-requires
-    enum-told
-    put-stitch-requires
-    enum-told-2
-    put-jump-requires
-    same-length
-    returns
-    same-length-2
-    returns-2
-    returns-3)
+    shared-slice-read-op-of (λ c κs. search needs) (λ c. search needs) put-stitch-requires (λ c. search needs)
+    put-jump-requires (λ c. search needs) returns (λ c. search needs) returns-2 returns-3)

@@ -30,9 +30,6 @@ returns : tie.Need-returns
 unfolding pesCmd
 returns c = let a = c .before .before .before .args in rw (not-true (a .new) (c .if1 .taken)) (put-nothing (now (a .out)) (a .at))
 
-run-end-requires : tie.Need-run-end-requires
-run-end-requires c κs = search needs
-
 sub-end : tie.Need-sub-end
 sub-end c =
     let s = c .before .before .before .before in
@@ -125,9 +122,6 @@ put-point-requires-2 c κs =
       ),
     )
 
-same-length : tie.Need-same-length
-same-length c = search needs
-
 returns-2 : tie.Need-returns-2
 unfolding pesCmd joined
 returns-2 c =
@@ -145,15 +139,6 @@ pub put-jump-spec : {M : Type 1} → statement M
 put-jump-spec =
     tie.close
     (tie.spec
-    returns
-    run-end-requires
-    sub-end
-    put-open-requires
-    put-point-requires
-    mul-put-point
-    shared-slice-copy-out-put-point
-    mul-put-point-2
-    shared-slice-copy-out-put-point-2
-    put-point-requires-2
-    same-length
-    returns-2)
+    returns (λ c κs. search needs) sub-end put-open-requires put-point-requires mul-put-point
+    shared-slice-copy-out-put-point mul-put-point-2 shared-slice-copy-out-put-point-2 put-point-requires-2
+    (λ c. search needs) returns-2)

@@ -165,27 +165,7 @@ pub put-log-spec : {M : Type 1} → statement M
 put-log-spec =
     tie.close
     (tie.spec
-    Inv-loop
-    μ-loop
-    list-len-requires
-    start-requires
-    loop-holds
-    shared-slice-read-kind
-    is-new-requires
-    goes-on-requires
-    run-end-requires
-    loop-less
-    loop-again
-    is-logged-requires
-    put-entry-requires
-    last-code-requires
-    mul-next
-    shared-slice-copy-out-next
-    mul-next-2
-    shared-slice-copy-out-next-2
-    next-requires
-    add-i
-    loop-less-2
-    loop-again-2
-    same-length
-    returns)
+    Inv-loop μ-loop list-len-requires start-requires loop-holds shared-slice-read-kind is-new-requires
+    goes-on-requires run-end-requires loop-less loop-again is-logged-requires put-entry-requires last-code-requires
+    mul-next shared-slice-copy-out-next mul-next-2 shared-slice-copy-out-next-2 next-requires add-i loop-less-2
+    loop-again-2 same-length returns)

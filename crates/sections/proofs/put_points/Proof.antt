@@ -109,16 +109,5 @@ pub put-points-spec : {M : Type 1} → statement M
 put-points-spec =
     tie.close
     (tie.spec
-    Inv-loop
-    μ-loop
-    loop-holds
-    mul-put-point
-    shared-slice-copy-out-put-point
-    mul-put-point-2
-    shared-slice-copy-out-put-point-2
-    put-point-requires
-    add-k
-    loop-less
-    loop-again
-    same-length
-    returns)
+    Inv-loop μ-loop loop-holds mul-put-point shared-slice-copy-out-put-point mul-put-point-2
+    shared-slice-copy-out-put-point-2 put-point-requires add-k loop-less loop-again same-length returns)

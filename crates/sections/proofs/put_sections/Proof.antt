@@ -210,33 +210,8 @@ pub put-sections-spec : {M : Type 1} → statement M
 put-sections-spec =
     tie.close
     (tie.spec
-    Inv-loop
-    μ-loop
-    list-len-requires
-    start-requires
-    loop-holds
-    shared-slice-read-kind
-    is-new-requires
-    goes-on-requires
-    run-end-requires
-    put-points-requires
-    sub-moved
-    mul-moved
-    shared-slice-copy-out-moved
-    sub-moved-2
-    mul-moved-2
-    shared-slice-copy-out-moved-2
-    moved-requires
-    loop-less
-    loop-again
-    put-cmd-requires
-    mul-next
-    shared-slice-copy-out-next
-    mul-next-2
-    shared-slice-copy-out-next-2
-    next-requires
-    add-i
-    loop-less-2
-    loop-again-2
-    same-length
-    returns)
+    Inv-loop μ-loop list-len-requires start-requires loop-holds shared-slice-read-kind is-new-requires
+    goes-on-requires run-end-requires put-points-requires sub-moved mul-moved shared-slice-copy-out-moved
+    sub-moved-2 mul-moved-2 shared-slice-copy-out-moved-2 moved-requires loop-less loop-again put-cmd-requires
+    mul-next shared-slice-copy-out-next mul-next-2 shared-slice-copy-out-next-2 next-requires add-i loop-less-2
+    loop-again-2 same-length returns)

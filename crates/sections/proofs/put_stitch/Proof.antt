@@ -57,12 +57,6 @@ module _ (c : tie.After-y) where
   point : pesPoint (back (s .args .left)) (back (s .args .bottom)) (back px) (back py) ≡ pesPoint (s .args .left) (s .args .bottom) px py
   point = rw (toZ-ofZ (s .fits .left), toZ-ofZ (s .fits .bottom), ret w32 px (c .before .x .given), ret w32 py (c .y .given))
 
-run-end-requires : tie.Need-run-end-requires
-run-end-requires c κs = search needs
-
-sub-points : tie.Need-sub-points
-sub-points c = search needs
-
 put-open-requires : tie.Need-put-open-requires
 put-open-requires c κs =
     let s = c .before .before .before .before .before .before .before in
@@ -79,9 +73,6 @@ put-point-requires c κs =
     let long = stitch-room (stateOf (a .s)) (a .left) (a .bottom) (cmdAt (now (a .xs)) (now (a .ys)) (now (a .kinds)) (a .i)) cs (c .before .before .before .before .before .run-end .result - a .i) in
     let p = c .before .before .before .put-open .ensures in
     (near (c .before .before .before .before .before .before .before), omega (arith, long, rw (c .before .before .before .before .before .before .if1 .taken) at (s .pre .1 .1), p .ends, put-length p))
-
-same-length : tie.Need-same-length
-same-length c = search needs
 
 returns : tie.Need-returns
 unfolding pesCmd
@@ -101,9 +92,6 @@ put-point-requires-2 c κs =
     let long = length-point (a .left) (a .bottom) (getD (now (a .xs)) (a .i) (pos 0)) (getD (now (a .ys)) (a .i) (pos 0)) in
     (near (c .before .before), omega (arith, long, rw (c .before .if1 .left) at (s .pre .1 .1)))
 
-same-length-2 : tie.Need-same-length-2
-same-length-2 c = search needs
-
 returns-2 : tie.Need-returns-2
 unfolding pesCmd
 returns-2 c = rw (c .before .before .before .before .if1 .left) (put-as (c .before .before .put-point2 .ensures) (point (c .before .before .before .before .before)))
@@ -112,16 +100,6 @@ pub put-stitch-spec : {M : Type 1} → statement M
 put-stitch-spec =
     tie.close
     (tie.spec
-    mul-x
-    shared-slice-copy-out-x
-    mul-y
-    shared-slice-copy-out-y
-    run-end-requires
-    sub-points
-    put-open-requires
-    put-point-requires
-    same-length
-    returns
-    put-point-requires-2
-    same-length-2
+    mul-x shared-slice-copy-out-x mul-y shared-slice-copy-out-y (λ c κs. search needs) (λ c. search needs)
+    put-open-requires put-point-requires (λ c. search needs) returns put-point-requires-2 (λ c. search needs)
     returns-2)

@@ -79,15 +79,5 @@ pub run-end-spec : {M : Type 1} → statement M
 run-end-spec =
     tie.close
     (tie.spec
-    Inv-loop
-    μ-loop
-    list-len-requires
-    shared-slice-read-kind
-    alike-till-requires
-    loop-holds
-    shared-slice-read-if1
-    returns
-    add-i
-    loop-less
-    loop-again
-    returns-2)
+    Inv-loop μ-loop list-len-requires shared-slice-read-kind alike-till-requires loop-holds shared-slice-read-if1
+    returns add-i loop-less loop-again returns-2)

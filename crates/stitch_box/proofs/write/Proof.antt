@@ -6,24 +6,9 @@ use borrow.Author.Needs.{needs}
 use Rattle.stitch_box.proofs.write.Statement.{statement}
 use Rattle.stitch_box.proofs.write.Tie as tie
 
-extension-of-requires : tie.Need-extension-of-requires
-extension-of-requires c κs = search needs
-
-enum-known-named : tie.Need-enum-known-named
-enum-known-named c = search needs
-
-enum-told : tie.Need-enum-told
-enum-told c = search needs
-
 returns : tie.Need-returns
 unfolding writeVerdict verdict writeAnswer filled
 returns c = let v = sym (c .before .before .extension-of .ensures) ∙ c .enum-told .given .1 in record { answered = rw v; stored = rw v }
-
-write-stitch-file-requires : tie.Need-write-stitch-file-requires
-write-stitch-file-requires c κs = search needs
-
-same-length : tie.Need-same-length
-same-length c = search needs
 
 returns-2 : tie.Need-returns-2
 unfolding fileTold
@@ -33,10 +18,5 @@ pub write-spec : {M : Type 1} → statement M
 write-spec =
     tie.close
     (tie.spec
-    extension-of-requires
-    enum-known-named
-    enum-told
-    returns
-    write-stitch-file-requires
-    same-length
-    returns-2)
+    (λ c κs. search needs) (λ c. search needs) (λ c. search needs) returns (λ c κs. search needs)
+    (λ c. search needs) returns-2)

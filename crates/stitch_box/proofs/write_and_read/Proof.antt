@@ -21,6 +21,5 @@ write-and-read-spec =
     tie.close
     (tie.spec
     (λ c κs. search needs) (λ c. search needs) slice-reshare-prefix-read-back slice-aggregate-read-back
-    (λ c κs. search needs) (λ c. search needs)
-    (λ c. search needs) (λ c. search needs) (λ c. search needs) (λ c. search needs) returns
-    (λ c. search needs) returns-2)
+    (λ c κs. search needs) (λ c. search needs) (λ c. search needs) (λ c. search needs) (λ c. search needs)
+    (λ c. search needs) returns (λ c. search needs) returns-2)

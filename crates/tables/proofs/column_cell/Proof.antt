@@ -21,9 +21,6 @@ returns : tie.Need-returns
 unfolding columnCell
 returns c = simp (le-ltb _ _ (c .if1 .taken))
 
-shl-result : tie.Need-shl-result
-shl-result c = search needs
-
 mul-result : tie.Need-mul-result
 mul-result c = rw (bit-of (c .before .args .x % 8) (omega arith)) (omega (arith, bit-le (c .before .args .x % 8) (omega arith)))
 
@@ -39,4 +36,4 @@ returns-2 c = simp (lt-ltb _ _ (c .if1 .left), bit-of (c .before .args .x % 8) (
 
 pub column-cell-spec : {M : Type 1} → statement M
 column-cell-spec =
-    tie.close (tie.spec returns shl-result mul-result add-result cast-result returns-2)
+    tie.close (tie.spec returns (λ c. search needs) mul-result add-result cast-result returns-2)

@@ -48,9 +48,6 @@ pec-icon-blank-requires c κs = tt
 pec-icon-blank-requires-2 : tie.Need-pec-icon-blank-requires-2 Inv-loop μ-loop
 pec-icon-blank-requires-2 c κs = tt
 
-add-to : tie.Need-add-to Inv-loop μ-loop
-add-to c = search needs
-
 loop-holds : tie.Need-loop-holds Inv-loop μ-loop
 loop-holds c =
     let a = c .before .before .before .before .before .before .before .before .before .args in
@@ -332,46 +329,11 @@ pub draw-looked-spec : {M : Type 1} → statement M
 draw-looked-spec =
     tie.close
     (tie.spec
-    Inv-loop
-    μ-loop
-    list-len-requires
-    pec-icon-blank-requires
-    pec-icon-blank-requires-2
-    add-to
-    loop-holds
-    shared-slice-read-kind
-    mul-index-of
-    shared-slice-copy-out-index-of
-    index-of-requires
-    mul-index-of-2
-    shared-slice-copy-out-index-of-2
-    index-of-requires-2
-    slice-aggregate-set-bit
-    mul-set-bit
-    shared-slice-read-set-bit
-    mul-set-bit-2
-    shared-slice-read-set-bit-2
-    set-bit-requires
-    slice-aggregate-set-bit-2
-    mul-set-bit-3
-    shared-slice-read-set-bit-3
-    mul-set-bit-4
-    shared-slice-read-set-bit-4
-    set-bit-requires-2
-    add-i
-    loop-less
-    loop-again
-    add-i-2
-    slice-aggregate-put-rows
-    put-rows-requires
-    pec-icon-blank-requires-3
-    loop-less-2
-    loop-again-2
-    loop-less-3
-    loop-again-3
-    slice-aggregate-put-rows-2
-    put-rows-requires-2
-    slice-aggregate-put-rows-3
-    put-rows-requires-3
-    same-length
-    returns)
+    Inv-loop μ-loop list-len-requires pec-icon-blank-requires pec-icon-blank-requires-2 (λ c. search needs)
+    loop-holds shared-slice-read-kind mul-index-of shared-slice-copy-out-index-of index-of-requires mul-index-of-2
+    shared-slice-copy-out-index-of-2 index-of-requires-2 slice-aggregate-set-bit mul-set-bit
+    shared-slice-read-set-bit mul-set-bit-2 shared-slice-read-set-bit-2 set-bit-requires slice-aggregate-set-bit-2
+    mul-set-bit-3 shared-slice-read-set-bit-3 mul-set-bit-4 shared-slice-read-set-bit-4 set-bit-requires-2 add-i
+    loop-less loop-again add-i-2 slice-aggregate-put-rows put-rows-requires pec-icon-blank-requires-3 loop-less-2
+    loop-again-2 loop-less-3 loop-again-3 slice-aggregate-put-rows-2 put-rows-requires-2 slice-aggregate-put-rows-3
+    put-rows-requires-3 same-length returns)

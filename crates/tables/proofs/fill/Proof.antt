@@ -72,18 +72,5 @@ pub fill-spec : {M : Type 1} → statement M
 fill-spec =
     tie.close
     (tie.spec
-    Inv-loop
-    μ-loop
-    loop-holds
-    place-requires
-    scaled-requires
-    floor-requires
-    sub-stretch
-    stretch-requires
-    add-end
-    cell-of-requires
-    fill-same-requires
-    loop-less
-    loop-again
-    same-length
-    returns)
+    Inv-loop μ-loop loop-holds place-requires scaled-requires floor-requires sub-stretch stretch-requires add-end
+    cell-of-requires fill-same-requires loop-less loop-again same-length returns)

@@ -55,13 +55,4 @@ pub fill-same-spec : {M : Type 1} → statement M
 fill-same-spec =
     tie.close
     (tie.spec
-    Inv-loop
-    μ-loop
-    loop-holds
-    mul-table
-    slice-write-table
-    add-k
-    loop-less
-    loop-again
-    same-length
-    returns)
+    Inv-loop μ-loop loop-holds mul-table slice-write-table add-k loop-less loop-again same-length returns)

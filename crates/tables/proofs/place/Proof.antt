@@ -4,9 +4,6 @@ use borrow.Author.Needs.{needs}
 use Rattle.tables.proofs.place.Statement.{statement}
 use Rattle.tables.proofs.place.Tie as tie
 
-cast-result : tie.Need-cast-result
-cast-result c = search needs
-
 add-result : tie.Need-add-result
 add-result c = place-fits (c .pre .0) (c .pre .1) (c .fits .from)
 
@@ -14,4 +11,4 @@ returns : tie.Need-returns
 returns c = place-is (c .pre .0) (c .pre .1) (c .fits .from)
 
 pub place-spec : {M : Type 1} → statement M
-place-spec = tie.close (tie.spec cast-result add-result returns)
+place-spec = tie.close (tie.spec (λ c. search needs) add-result returns)

@@ -12,41 +12,8 @@ use borrow.Author.Needs.{needs}
 use Rattle.tables.proofs.put_by_tables.Statement.{statement}
 use Rattle.tables.proofs.put_by_tables.Tie as tie
 
-slice-aggregate-fill : tie.Need-slice-aggregate-fill
-slice-aggregate-fill c = search needs
-
-fill-requires : tie.Need-fill-requires
-fill-requires c κs = search needs
-
-slice-aggregate-fill-2 : tie.Need-slice-aggregate-fill-2
-slice-aggregate-fill-2 c = search needs
-
-fill-requires-2 : tie.Need-fill-requires-2
-fill-requires-2 c κs = search needs
-
-slice-aggregate-fill-3 : tie.Need-slice-aggregate-fill-3
-slice-aggregate-fill-3 c = search needs
-
-fill-requires-3 : tie.Need-fill-requires-3
-fill-requires-3 c κs = search needs
-
-slice-aggregate-fill-4 : tie.Need-slice-aggregate-fill-4
-slice-aggregate-fill-4 c = search needs
-
 fill-requires-4 : tie.Need-fill-requires-4
 fill-requires-4 c κs = (rw (toZ-ofZ (c .before .before .before .before .before .before .before .before .before .before .before .before .fits .top)) (c .before .before .before .before .before .before .before .before .before .before .before .before .pre .0 .1 .0), (c .before .before .before .before .before .before .before .before .before .before .before .before .pre .0 .1 .1, rw (length-replicate {A = ℕ} 32768 0) (c .before .before .before .before .before .before .before .before .before .before .before .before .pre .0 .1 .1)))
-
-slice-aggregate-draw-looked : tie.Need-slice-aggregate-draw-looked
-slice-aggregate-draw-looked c = search needs
-
-slice-aggregate-draw-looked-2 : tie.Need-slice-aggregate-draw-looked-2
-slice-aggregate-draw-looked-2 c = search needs
-
-slice-aggregate-draw-looked-3 : tie.Need-slice-aggregate-draw-looked-3
-slice-aggregate-draw-looked-3 c = search needs
-
-slice-aggregate-draw-looked-4 : tie.Need-slice-aggregate-draw-looked-4
-slice-aggregate-draw-looked-4 c = search needs
 
 draw-looked-requires : tie.Need-draw-looked-requires
 draw-looked-requires c κs =
@@ -61,9 +28,6 @@ draw-looked-requires c κs =
     let inside = all-inside (a .whole .scale) (a .whole .tx) (a .whole .scale) (a .whole .ty) (a .left) (a .top) (a .w) (a .h) (c .before .before .before .before .before .before .before .before .before .before .before .before .before .before .before .fill .last .1 .1 .1 .1 .1 .0) (c .before .before .before .before .before .before .before .before .before .before .before .before .fill2 .last .1 .1 .1 .1 .1 .0) (rw (c .before .before .before .before .before .before .before .before .before .before .before .before .before .before .before .fill .ensures .0 ∙ length-replicate {A = ℕ} 32768 0) (c .before .before .before .before .before .before .before .before .before .before .before .before .before .before .before .before .before .before .before .pre .0 .0 .1)) (rw (c .before .before .before .before .before .before .before .before .before .before .before .before .fill2 .ensures .0 ∙ length-replicate {A = ℕ} 32768 0) (c .before .before .before .before .before .before .before .before .before .before .before .before .before .before .before .before .before .before .before .pre .0 .1 .1)) f1 f2 in
     let binside = all-inside (a .part .scale) (a .part .tx) (a .part .scale) (a .part .ty) (a .left) (a .top) (a .w) (a .h) (c .before .before .before .before .before .before .before .before .before .fill3 .last .1 .1 .1 .1 .1 .0) (c .before .before .before .before .before .before .fill4 .last .1 .1 .1 .1 .1 .0) (rw (c .before .before .before .before .before .before .before .before .before .fill3 .ensures .0 ∙ length-replicate {A = ℕ} 32768 0) (c .before .before .before .before .before .before .before .before .before .before .before .before .before .before .before .before .before .before .before .pre .0 .0 .1)) (rw (c .before .before .before .before .before .before .fill4 .ensures .0 ∙ length-replicate {A = ℕ} 32768 0) (c .before .before .before .before .before .before .before .before .before .before .before .before .before .before .before .before .before .before .before .pre .0 .1 .1)) f3 f4 in
     rw (l, t) (c .before .before .before .before .before .before .before .before .before .before .before .before .before .before .before .before .before .before .before .pre .0, ((inside, binside), (c .before .before .before .before .before .before .before .before .before .before .before .before .before .before .before .before .before .before .before .pre .1 .0, rw (blocks-told [] [] _ _ (a .left) (a .top) (a .w) (a .h) cs (c .before .before .before .before .before .before .before .before .before .before .before .before .before .before .before .before .before .before .before .pre .1 .0) (a .part) f3 f4) (c .before .before .before .before .before .before .before .before .before .before .before .before .before .before .before .before .before .before .before .pre .1 .1))))
-
-same-length : tie.Need-same-length
-same-length c = search needs
 
 returns : tie.Need-returns
 returns c =
@@ -81,18 +45,6 @@ pub put-by-tables-spec : {M : Type 1} → statement M
 put-by-tables-spec =
     tie.close
     (tie.spec
-    slice-aggregate-fill
-    fill-requires
-    slice-aggregate-fill-2
-    fill-requires-2
-    slice-aggregate-fill-3
-    fill-requires-3
-    slice-aggregate-fill-4
-    fill-requires-4
-    slice-aggregate-draw-looked
-    slice-aggregate-draw-looked-2
-    slice-aggregate-draw-looked-3
-    slice-aggregate-draw-looked-4
-    draw-looked-requires
-    same-length
-    returns)
+    (λ c. search needs) (λ c κs. search needs) (λ c. search needs) (λ c κs. search needs) (λ c. search needs)
+    (λ c κs. search needs) (λ c. search needs) fill-requires-4 (λ c. search needs) (λ c. search needs)
+    (λ c. search needs) (λ c. search needs) draw-looked-requires (λ c. search needs) returns)

@@ -9,24 +9,6 @@ use borrow.Author.Needs.{needs}
 use Rattle.tables.proofs.put_rows.Statement.{statement}
 use Rattle.tables.proofs.put_rows.Tie as tie
 
-put-times-requires : tie.Need-put-times-requires
-put-times-requires c κs = search needs
-
-sub-put-text : tie.Need-sub-put-text
-sub-put-text c = search needs
-
-part-put-text-start : tie.Need-part-put-text-start
-part-put-text-start c = search needs
-
-part-put-text-end : tie.Need-part-put-text-end
-part-put-text-end c = search needs
-
-put-text-requires : tie.Need-put-text-requires
-put-text-requires c κs = search needs
-
-same-length : tie.Need-same-length
-same-length c = search needs
-
 returns : tie.Need-returns
 returns c = put-as (put-put (c .before .before .before .before .before .before .before .put-times .ensures) (c .before .before .put-text .ensures)) (rw (take-all (length (now (c .before .before .before .before .before .before .before .before .before .before .before .args .icon)) - 6) (drop 6 (now (c .before .before .before .before .before .before .before .before .before .before .before .args .icon))) (omega (arith, length-drop 6 (now (c .before .before .before .before .before .before .before .before .before .before .before .args .icon))))))
 
@@ -34,10 +16,5 @@ pub put-rows-spec : {M : Type 1} → statement M
 put-rows-spec =
     tie.close
     (tie.spec
-    put-times-requires
-    sub-put-text
-    part-put-text-start
-    part-put-text-end
-    put-text-requires
-    same-length
-    returns)
+    (λ c κs. search needs) (λ c. search needs) (λ c. search needs) (λ c. search needs) (λ c κs. search needs)
+    (λ c. search needs) returns)

@@ -6,35 +6,15 @@ use borrow.Author.Needs.{needs}
 use Rattle.tables.proofs.reach.Statement.{statement}
 use Rattle.tables.proofs.reach.Tie as tie
 
-add-next : tie.Need-add-next
-add-next c = search needs
-
-cast-next : tie.Need-cast-next
-cast-next c = search needs
-
-int-to-float-far : tie.Need-int-to-float-far
-int-to-float-far c = search needs
-
-returns : tie.Need-returns
-returns c = search needs
-
 truncating-f64-to-u64-requires : tie.Need-truncating-f64-to-u64-requires
 truncating-f64-to-u64-requires c κs = cut-range _ (fails _ (c .before .if1 .left)) (true-is _ (c .if2 .taken))
 
 returns-2 : tie.Need-returns-2
 returns-2 c = rw (c .truncating-f64-to-u64 .ensures) (cut-le _ (true-is _ (c .before .if2 .taken)))
 
-returns-3 : tie.Need-returns-3
-returns-3 c = search needs
-
 pub reach-spec : {M : Type 1} → statement M
 reach-spec =
     tie.close
     (tie.spec
-    add-next
-    cast-next
-    int-to-float-far
-    returns
-    truncating-f64-to-u64-requires
-    returns-2
-    returns-3)
+    (λ c. search needs) (λ c. search needs) (λ c. search needs) (λ c. search needs) truncating-f64-to-u64-requires
+    returns-2 (λ c. search needs))

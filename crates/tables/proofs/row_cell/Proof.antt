@@ -9,15 +9,9 @@ returns : tie.Need-returns
 unfolding rowCell
 returns c = simp (le-ltb _ _ (c .if1 .taken))
 
-mul-result : tie.Need-mul-result
-mul-result c = search needs
-
-cast-result : tie.Need-cast-result
-cast-result c = search needs
-
 returns-2 : tie.Need-returns-2
 unfolding rowCell
 returns-2 c = simp (lt-ltb _ _ (c .if1 .left))
 
 pub row-cell-spec : {M : Type 1} → statement M
-row-cell-spec = tie.close (tie.spec returns mul-result cast-result returns-2)
+row-cell-spec = tie.close (tie.spec returns (λ c. search needs) (λ c. search needs) returns-2)

@@ -14,35 +14,11 @@ use Rattle.tables.proofs.stretch.Tie as tie
 returns : tie.Need-returns
 returns c = (omega arith, (omega arith, alone (c .before .args .scale) (c .before .args .t) (c .before .args .z) (c .before .pre .1)))
 
-scaled-requires : tie.Need-scaled-requires
-scaled-requires c κs = search needs
-
-reach-requires : tie.Need-reach-requires
-reach-requires c κs = search needs
-
-lesser-requires : tie.Need-lesser-requires
-lesser-requires c κs = search needs
-
 returns-2 : tie.Need-returns-2
 returns-2 c = (omega arith, (omega arith, alone (c .before .before .before .before .before .args .scale) (c .before .before .before .before .before .args .t) (c .before .before .before .before .before .args .z) (c .before .before .before .before .before .pre .1)))
 
-is-above-zero-requires : tie.Need-is-above-zero-requires
-is-above-zero-requires c κs = search needs
-
 returns-3 : tie.Need-returns-3
 returns-3 c = (omega arith, (omega arith, alone (c .before .before .before .before .before .before .before .args .scale) (c .before .before .before .before .before .before .before .args .t) (c .before .before .before .before .before .before .before .args .z) (c .before .before .before .before .before .before .before .pre .1)))
-
-sub-place : tie.Need-sub-place
-sub-place c = search needs
-
-place-requires : tie.Need-place-requires
-place-requires c κs = search needs
-
-scaled-requires-2 : tie.Need-scaled-requires-2
-scaled-requires-2 c κs = search needs
-
-floor-requires : tie.Need-floor-requires
-floor-requires c κs = search needs
 
 returns-4 : tie.Need-returns-4
 returns-4 c =
@@ -59,16 +35,6 @@ pub stretch-spec : {M : Type 1} → statement M
 stretch-spec =
     tie.close
     (tie.spec
-    returns
-    scaled-requires
-    reach-requires
-    lesser-requires
-    returns-2
-    is-above-zero-requires
-    returns-3
-    sub-place
-    place-requires
-    scaled-requires-2
-    floor-requires
-    returns-4
+    returns (λ c κs. search needs) (λ c κs. search needs) (λ c κs. search needs) returns-2 (λ c κs. search needs)
+    returns-3 (λ c. search needs) (λ c κs. search needs) (λ c κs. search needs) (λ c κs. search needs) returns-4
     returns-5)

@@ -63,15 +63,5 @@ pub block-end-spec : {M : Type 1} → statement M
 block-end-spec =
     tie.close
     (tie.spec
-    Inv-loop
-    μ-loop
-    list-len-requires
-    loop-holds
-    shared-slice-read-op-of
-    op-of-requires
-    is-change-requires
-    returns
-    add-i
-    loop-less
-    loop-again
-    returns-2)
+    Inv-loop μ-loop list-len-requires loop-holds shared-slice-read-op-of op-of-requires is-change-requires returns
+    add-i loop-less loop-again returns-2)

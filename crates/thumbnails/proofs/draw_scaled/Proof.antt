@@ -92,20 +92,6 @@ pub draw-scaled-spec : {M : Type 1} → statement M
 draw-scaled-spec =
     tie.close
     (tie.spec
-    Inv-loop
-    μ-loop
-    pec-icon-blank-requires
-    no-cell-requires
-    loop-holds
-    slice-aggregate-mark
-    shared-slice-read-op-of
-    op-of-requires
-    mul-mark
-    shared-slice-copy-out-mark
-    mul-mark-2
-    shared-slice-copy-out-mark-2
-    mark-requires
-    add-i
-    loop-less
-    loop-again
-    returns)
+    Inv-loop μ-loop pec-icon-blank-requires no-cell-requires loop-holds slice-aggregate-mark shared-slice-read-op-of
+    op-of-requires mul-mark shared-slice-copy-out-mark mul-mark-2 shared-slice-copy-out-mark-2 mark-requires add-i
+    loop-less loop-again returns)

@@ -15,17 +15,8 @@ returns-2 c e = false-true e
 returns-3 : tie.Need-returns-3
 returns-3 c e = false-true e
 
-add-if4 : tie.Need-add-if4
-add-if4 c = search needs
-
 returns-4 : tie.Need-returns-4
 returns-4 c e = false-true e
-
-is-near-requires : tie.Need-is-near-requires
-is-near-requires c κs = search needs
-
-is-near-requires-2 : tie.Need-is-near-requires-2
-is-near-requires-2 c κs = search needs
 
 returns-5 : tie.Need-returns-5
 returns-5 c e =
@@ -36,4 +27,4 @@ returns-5 c e =
 pub has-tables-spec : {M : Type 1} → statement M
 has-tables-spec =
     tie.close
-    (tie.spec returns returns-2 returns-3 add-if4 returns-4 is-near-requires is-near-requires-2 returns-5)
+    (tie.spec returns returns-2 returns-3 (λ c. search needs) returns-4 (λ c κs. search needs) (λ c κs. search needs) returns-5)

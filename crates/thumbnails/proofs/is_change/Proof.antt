@@ -21,9 +21,6 @@ others Trim k = refl
 others ColorChange k = absurd (miss (0 ∷ 1 ∷ 2 ∷ 4 ∷ []) 3 tt k)
 others End k = refl
 
-enum-told : tie.Need-enum-told
-enum-told c = search needs
-
 returns : tie.Need-returns
 returns c = others (c .before .args .op) (c .match .keys2)
 
@@ -32,4 +29,4 @@ unfolding isChange
 returns-2 c = rw (c .enum-told .given .1)
 
 pub is-change-spec : {M : Type 1} → statement M
-is-change-spec = tie.close (tie.spec enum-told returns returns-2)
+is-change-spec = tie.close (tie.spec (λ c. search needs) returns returns-2)

@@ -24,17 +24,8 @@ others s icon x y Trim k = refl
 others s icon x y ColorChange k = refl
 others s icon x y End k = refl
 
-enum-told : tie.Need-enum-told
-enum-told c = search needs
-
 returns : tie.Need-returns
 returns c = (others (c .before .before .args .s) _ (c .before .before .args .x) (c .before .before .args .y) (c .before .before .args .op) (c .match .keys2), c .before .before .pre .1)
-
-paint-requires : tie.Need-paint-requires
-paint-requires c κs = search needs
-
-same-length : tie.Need-same-length
-same-length c = search needs
 
 returns-2 : tie.Need-returns-2
 unfolding marked
@@ -43,4 +34,4 @@ returns-2 c =
     (rw (c .before .before .before .before .enum-told .given .1) (rw (toZ-ofZ (f .x), toZ-ofZ (f .y)) at (c .before .before .paint .ensures .0)), c .before .before .paint .ensures .1)
 
 pub mark-spec : {M : Type 1} → statement M
-mark-spec = tie.close (tie.spec enum-told returns paint-requires same-length returns-2)
+mark-spec = tie.close (tie.spec (λ c. search needs) returns (λ c κs. search needs) (λ c. search needs) returns-2)

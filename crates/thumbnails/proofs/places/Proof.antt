@@ -6,17 +6,8 @@ use borrow.Author.Needs.{needs}
 use Rattle.thumbnails.proofs.places.Statement.{statement}
 use Rattle.thumbnails.proofs.places.Tie as tie
 
-spread-requires : tie.Need-spread-requires
-spread-requires c κs = search needs
-
-cast-result : tie.Need-cast-result
-cast-result c = search needs
-
-add-result : tie.Need-add-result
-add-result c = search needs
-
 returns : tie.Need-returns
 returns c = ap (λ (k : ℕ). k + 1) (c .spread .ensures ∙ rw (toZ-ofZ (c .before .fits .a), toZ-ofZ (c .before .fits .b)))
 
 pub places-spec : {M : Type 1} → statement M
-places-spec = tie.close (tie.spec spread-requires cast-result add-result returns)
+places-spec = tie.close (tie.spec (λ c κs. search needs) (λ c. search needs) (λ c. search needs) returns)

@@ -72,15 +72,5 @@ pub put-blocks-spec : {M : Type 1} → statement M
 put-blocks-spec =
     tie.close
     (tie.spec
-    Inv-loop
-    μ-loop
-    list-len-requires
-    loop-holds
-    block-end-requires
-    draw-scaled-requires
-    put-icon-requires
-    add-from
-    loop-less
-    loop-again
-    same-length
-    returns)
+    Inv-loop μ-loop list-len-requires loop-holds block-end-requires draw-scaled-requires put-icon-requires add-from
+    loop-less loop-again same-length returns)

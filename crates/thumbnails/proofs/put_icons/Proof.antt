@@ -13,24 +13,6 @@ use borrow.Author.Needs.{needs}
 use Rattle.thumbnails.proofs.put_icons.Statement.{statement}
 use Rattle.thumbnails.proofs.put_icons.Tie as tie
 
-list-len-requires : tie.Need-list-len-requires
-list-len-requires c κs = search needs
-
-scale-of-requires : tie.Need-scale-of-requires
-scale-of-requires c κs = search needs
-
-scale-of-requires-2 : tie.Need-scale-of-requires-2
-scale-of-requires-2 c κs = search needs
-
-places-requires : tie.Need-places-requires
-places-requires c κs = search needs
-
-places-requires-2 : tie.Need-places-requires-2
-places-requires-2 c κs = search needs
-
-has-tables-requires : tie.Need-has-tables-requires
-has-tables-requires c κs = search needs
-
 put-by-tables-requires : tie.Need-put-by-tables-requires
 put-by-tables-requires c κs =
     let a = c .before .before .before .before .before .before .before .before .before .before .before .before .before .before .before .before .before .before .before .before .before .before .before .before .before .before .args in
@@ -44,9 +26,6 @@ put-by-tables-requires c κs =
     let held = c .before .before .before .before .has-tables .ensures (c .before .before .before .if1 .taken) in
     let frame = framed-as cs (c .before .before .before .before .before .before .before .before .before .before .before .before .before .before .before .before .before .before .before .before .before .before .before .before .before .before .pre .0) (toZ-ofZ x) (toZ-ofZ x′) (toZ-ofZ y) (toZ-ofZ y′) (c .before .before .before .before .before .before .before .before .before .before .places .ensures) (c .before .before .before .before .before .before .before .places2 .ensures) in
     (held, (frame, icons-room cs (c .before .before .before .before .before .before .before .before .before .before .before .before .before .scale-of2 .result) (a .at) (length (now (a .out))) (c .before .before .before .before .before .before .before .before .before .before .before .before .before .before .before .before .before .before .before .before .before .before .before .before .before .before .pre .1)))
-
-same-length : tie.Need-same-length
-same-length c = search needs
 
 returns : tie.Need-returns
 returns c =
@@ -67,9 +46,6 @@ put-plainly-requires c κs =
     let a = c .before .before .before .before .before .before .before .before .before .before .before .before .before .before .before .before .before .before .before .before .before .before .before .before .args in
     icons-room (commands (now (a .xs)) (now (a .ys)) (now (a .kinds))) (c .before .before .before .before .before .before .before .before .before .before .before .scale-of2 .result) (a .at) (length (now (a .out))) (c .before .before .before .before .before .before .before .before .before .before .before .before .before .before .before .before .before .before .before .before .before .before .before .before .pre .1)
 
-same-length-2 : tie.Need-same-length-2
-same-length-2 c = search needs
-
 returns-2 : tie.Need-returns-2
 returns-2 c =
     let a = c .before .before .before .before .before .before .before .before .before .before .before .before .before .before .before .before .before .before .before .before .before .before .before .before .before .before .before .args in
@@ -88,15 +64,6 @@ pub put-icons-spec : {M : Type 1} → statement M
 put-icons-spec =
     tie.close
     (tie.spec
-    list-len-requires
-    scale-of-requires
-    scale-of-requires-2
-    places-requires
-    places-requires-2
-    has-tables-requires
-    put-by-tables-requires
-    same-length
-    returns
-    put-plainly-requires
-    same-length-2
-    returns-2)
+    (λ c κs. search needs) (λ c κs. search needs) (λ c κs. search needs) (λ c κs. search needs)
+    (λ c κs. search needs) (λ c κs. search needs) put-by-tables-requires (λ c. search needs) returns
+    put-plainly-requires (λ c. search needs) returns-2)

@@ -30,27 +30,6 @@ returns-3 c =
     let h : 0 < y = omega arith in
     simp (lt-ltb _ _ (c .before .before .if1 .left), lt-ltb 0 y h, le-ltb _ _ (c .if3 .taken))
 
-mul-i : tie.Need-mul-i
-mul-i c = search needs
-
-add-i : tie.Need-add-i
-add-i c = search needs
-
-cast-icon : tie.Need-cast-icon
-cast-icon c = search needs
-
-shl-icon : tie.Need-shl-icon
-shl-icon c = search needs
-
-slice-read-icon : tie.Need-slice-read-icon
-slice-read-icon c = search needs
-
-slice-write-icon : tie.Need-slice-write-icon
-slice-write-icon c = search needs
-
-same-length : tie.Need-same-length
-same-length c = search needs
-
 returns-4 : tie.Need-returns-4
 unfolding pixel
 returns-4 c =
@@ -64,14 +43,5 @@ pub set-pixel-spec : {M : Type 1} → statement M
 set-pixel-spec =
     tie.close
     (tie.spec
-    returns
-    returns-2
-    returns-3
-    mul-i
-    add-i
-    cast-icon
-    shl-icon
-    slice-read-icon
-    slice-write-icon
-    same-length
-    returns-4)
+    returns returns-2 returns-3 (λ c. search needs) (λ c. search needs) (λ c. search needs) (λ c. search needs)
+    (λ c. search needs) (λ c. search needs) (λ c. search needs) returns-4)

@@ -10,18 +10,9 @@ use borrow.Author.Needs.{needs}
 use Rattle.builder.proofs.colors.color_of.Statement.{statement}
 use Rattle.builder.proofs.colors.color_of.Tie as tie
 
-mul-result : tie.Need-mul-result
-mul-result c = search needs
-
-shared-slice-read-result : tie.Need-shared-slice-read-result
-shared-slice-read-result c = search needs
-
 returns : tie.Need-returns
 unfolding colourIn
 returns c = let a = c .before .before .before .args in cell (now (a .colors)) (a .k) 0 (orDefault Empty (a .k)) (c .before .if1 .taken)
-
-default-color-requires : tie.Need-default-color-requires
-default-color-requires c κs = search needs
 
 returns-2 : tie.Need-returns-2
 unfolding colourIn
@@ -32,4 +23,4 @@ returns-2 c =
 pub color-of-spec : {M : Type 1} → statement M
 color-of-spec =
     tie.close
-    (tie.spec mul-result shared-slice-read-result returns default-color-requires returns-2)
+    (tie.spec (λ c. search needs) (λ c. search needs) returns (λ c κs. search needs) returns-2)

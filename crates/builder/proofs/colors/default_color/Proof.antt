@@ -18,15 +18,6 @@ entries = 0x1E1E1E ∷ 0xC82828 ∷ 0x1E5AAA ∷ 0xF0B41E ∷ 0x288C46 ∷ 0x823
 right : ℕ → ℕ → Bool
 right i v = eqb v (colorNumber (getD defaults i (color 0 0 0)))
 
-cast-result : tie.Need-cast-result
-cast-result c = search needs
-
-mul-result : tie.Need-mul-result
-mul-result c = search needs
-
-array-read-result : tie.Need-array-read-result
-array-read-result c = search needs
-
 returns : tie.Need-returns
 unfolding entries right orDefault defaults colorNumber
 returns c =
@@ -34,4 +25,4 @@ returns c =
     eqb→eq (getD entries (k % 8) 0) (colorNumber (getD defaults (k % 8) (color 0 0 0))) (at right entries 0 tt (k % 8) (mod-lt k (lit< tt)))
 
 pub default-color-spec : {M : Type 1} → statement M
-default-color-spec = tie.close (tie.spec cast-result mul-result array-read-result returns)
+default-color-spec = tie.close (tie.spec (λ c. search needs) (λ c. search needs) (λ c. search needs) returns)

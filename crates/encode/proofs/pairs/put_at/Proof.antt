@@ -21,9 +21,6 @@ few s = let a = s .args in omega (arith, length-commands (now (a .xs)) (now (a .
 shared-slice-read-op-of : tie.Need-shared-slice-read-op-of
 shared-slice-read-op-of c = omega (arith, few (c .before .before .before))
 
-op-of-requires : tie.Need-op-of-requires
-op-of-requires c κs = search needs
-
 mul-step : tie.Need-mul-step
 mul-step c = omega (arith, few (c .before .before .before .before))
 
@@ -56,9 +53,6 @@ pair-cmd-requires c κs =
     let dy = stepped (c .before .step2 .ok) (c .before .step2 .ensures) (fit w32 (getD (now (a .ys)) (a .i) (pos 0)) (c .before .before .step-arg2 .given)) (s .fits .y) in
     rw (dx, dy, c .before .before .before .before .before .op-of .ensures) (s .pre .0 .1, s .pre .1)
 
-same-length : tie.Need-same-length
-same-length c = search needs
-
 returns : tie.Need-returns
 returns c =
     let s = c .before .before .before .before .before .before .before .before .before .before .before .before in
@@ -71,14 +65,5 @@ pub put-at-spec : {M : Type 1} → statement M
 put-at-spec =
     tie.close
     (tie.spec
-    shared-slice-read-op-of
-    op-of-requires
-    mul-step
-    shared-slice-copy-out-step
-    step-requires
-    mul-step-2
-    shared-slice-copy-out-step-2
-    step-requires-2
-    pair-cmd-requires
-    same-length
-    returns)
+    shared-slice-read-op-of (λ c κs. search needs) mul-step shared-slice-copy-out-step step-requires mul-step-2
+    shared-slice-copy-out-step-2 step-requires-2 pair-cmd-requires (λ c. search needs) returns)

@@ -56,9 +56,6 @@ put-pair-requires-2 c κs =
     let p = c .before .before .before .before .before .put-pair .ensures in
     rw (ex, ey) ((s .pre .1 .0 .x, s .pre .1 .0 .y), omega (arith, s .pre .1 .1, p .ends, put-length p))
 
-same-length : tie.Need-same-length
-same-length c = search needs
-
 returns : tie.Need-returns
 returns c =
     let s = c .before .before .before .before .before .before .before .before .before .before .before .before .before in
@@ -73,11 +70,5 @@ pub put-two-spec : {M : Type 1} → statement M
 put-two-spec =
     tie.close
     (tie.spec
-    step-requires
-    step-requires-2
-    put-pair-requires
-    step-requires-3
-    step-requires-4
-    put-pair-requires-2
-    same-length
-    returns)
+    step-requires step-requires-2 put-pair-requires step-requires-3 step-requires-4 put-pair-requires-2
+    (λ c. search needs) returns)

@@ -55,9 +55,6 @@ put-move-requires-2 c κs =
     let p = c .before .before .before .before .before .put-move .ensures in
     rw (ex, ey) ((omega arith, s .pre .1 .0), (s .pre .1 .1 .0, omega (arith, s .pre .1 .1 .1, p .ends, put-length p)))
 
-same-length : tie.Need-same-length
-same-length c = search needs
-
 returns : tie.Need-returns
 unfolding dstCmd
 returns c =
@@ -73,11 +70,5 @@ pub put-two-spec : {M : Type 1} → statement M
 put-two-spec =
     tie.close
     (tie.spec
-    step-requires
-    step-requires-2
-    put-move-requires
-    step-requires-3
-    step-requires-4
-    put-move-requires-2
-    same-length
-    returns)
+    step-requires step-requires-2 put-move-requires step-requires-3 step-requires-4 put-move-requires-2
+    (λ c. search needs) returns)

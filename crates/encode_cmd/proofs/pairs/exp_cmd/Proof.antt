@@ -8,17 +8,11 @@ use Rattle.encode_cmd.specs.Cmds.{most}
 use Rattle.encode_cmd.proofs.pairs.exp_cmd.Statement.{statement}
 use Rattle.encode_cmd.proofs.pairs.exp_cmd.Tie as tie
 
-enum-told : tie.Need-enum-told
-enum-told c = search needs
-
 put-pair-requires : tie.Need-put-pair-requires
 unfolding expCmd pairOf most
 put-pair-requires c κs =
     let s = c .before .before .before .before in
     rw (toZ-ofZ (s .fits .dx), toZ-ofZ (s .fits .dy)) ((s .pre .0 .x, s .pre .0 .y), rw (c .before .enum-told .given .1) at (s .pre .1))
-
-enum-told-2 : tie.Need-enum-told-2
-enum-told-2 c = search needs
 
 put-jump-requires : tie.Need-put-jump-requires
 unfolding expCmd pairOf most
@@ -26,25 +20,13 @@ put-jump-requires c κs =
     let s = c .before .before .before .before in
     rw (toZ-ofZ (s .fits .dx), toZ-ofZ (s .fits .dy)) ((s .pre .0 .x, s .pre .0 .y), rw (c .before .enum-told2 .given .1) at (s .pre .1))
 
-enum-told-3 : tie.Need-enum-told-3
-enum-told-3 c = search needs
-
 put4-requires : tie.Need-put4-requires
 unfolding expCmd
 put4-requires c κs = rw (c .before .enum-told3 .given .1) at (c .before .before .before .before .pre .1)
 
-enum-told-4 : tie.Need-enum-told-4
-enum-told-4 c = search needs
-
 put4-requires-2 : tie.Need-put4-requires-2
 unfolding expCmd
 put4-requires-2 c κs = rw (c .before .enum-told4 .given .1) at (c .before .before .before .before .pre .1)
-
-enum-told-5 : tie.Need-enum-told-5
-enum-told-5 c = search needs
-
-same-length : tie.Need-same-length
-same-length c = search needs
 
 returns : tie.Need-returns
 unfolding expCmd
@@ -52,24 +34,15 @@ returns c =
     let s = c .before .before .before .before .before .before .before in
     rw (c .before .before .before .before .enum-told .given .1) (rw (toZ-ofZ (s .fits .dx), toZ-ofZ (s .fits .dy)) at (c .before .before .put-pair .ensures))
 
-same-length-2 : tie.Need-same-length-2
-same-length-2 c = search needs
-
 returns-2 : tie.Need-returns-2
 unfolding expCmd
 returns-2 c =
     let s = c .before .before .before .before .before .before .before in
     rw (c .before .before .before .before .enum-told2 .given .1) (rw (toZ-ofZ (s .fits .dx), toZ-ofZ (s .fits .dy)) at (c .before .before .put-jump .ensures))
 
-same-length-3 : tie.Need-same-length-3
-same-length-3 c = search needs
-
 returns-3 : tie.Need-returns-3
 unfolding expCmd
 returns-3 c = rw (c .before .before .before .before .enum-told3 .given .1) (c .before .before .put4 .ensures)
-
-same-length-4 : tie.Need-same-length-4
-same-length-4 c = search needs
 
 returns-4 : tie.Need-returns-4
 unfolding expCmd
@@ -83,21 +56,6 @@ pub exp-cmd-spec : {M : Type 1} → statement M
 exp-cmd-spec =
     tie.close
     (tie.spec
-    enum-told
-    put-pair-requires
-    enum-told-2
-    put-jump-requires
-    enum-told-3
-    put4-requires
-    enum-told-4
-    put4-requires-2
-    enum-told-5
-    same-length
-    returns
-    same-length-2
-    returns-2
-    same-length-3
-    returns-3
-    same-length-4
-    returns-4
-    returns-5)
+    (λ c. search needs) put-pair-requires (λ c. search needs) put-jump-requires (λ c. search needs) put4-requires
+    (λ c. search needs) put4-requires-2 (λ c. search needs) (λ c. search needs) returns (λ c. search needs)
+    returns-2 (λ c. search needs) returns-3 (λ c. search needs) returns-4 returns-5)

@@ -9,17 +9,11 @@ use Rattle.encode_cmd.specs.Cmds.{most}
 use Rattle.encode_cmd.proofs.pairs.jef_cmd.Statement.{statement}
 use Rattle.encode_cmd.proofs.pairs.jef_cmd.Tie as tie
 
-enum-told : tie.Need-enum-told
-enum-told c = search needs
-
 put-pair-requires : tie.Need-put-pair-requires
 unfolding jefCmd pairOf most
 put-pair-requires c κs =
     let s = c .before .before .before .before in
     rw (toZ-ofZ (s .fits .dx), toZ-ofZ (s .fits .dy)) ((s .pre .0 .x, s .pre .0 .y), rw (c .before .enum-told .given .1) at (s .pre .1))
-
-enum-told-2 : tie.Need-enum-told-2
-enum-told-2 c = search needs
 
 put-jump-requires : tie.Need-put-jump-requires
 unfolding jefCmd pairOf most
@@ -27,34 +21,19 @@ put-jump-requires c κs =
     let s = c .before .before .before .before in
     rw (toZ-ofZ (s .fits .dx), toZ-ofZ (s .fits .dy)) ((s .pre .0 .x, s .pre .0 .y), rw (c .before .enum-told2 .given .1) at (s .pre .1))
 
-enum-told-3 : tie.Need-enum-told-3
-enum-told-3 c = search needs
-
-enum-told-4 : tie.Need-enum-told-4
-enum-told-4 c = search needs
-
 put4-requires : tie.Need-put4-requires
 unfolding jefCmd
 put4-requires c κs = rw (c .before .enum-told4 .given .1) at (c .before .before .before .before .pre .1)
 
-enum-told-5 : tie.Need-enum-told-5
-enum-told-5 c = search needs
-
 put2-requires : tie.Need-put2-requires
 unfolding jefCmd
 put2-requires c κs = rw (c .before .enum-told5 .given .1) at (c .before .before .before .before .pre .1)
-
-same-length : tie.Need-same-length
-same-length c = search needs
 
 returns : tie.Need-returns
 unfolding jefCmd
 returns c =
     let s = c .before .before .before .before .before .before .before in
     rw (c .before .before .before .before .enum-told .given .1) (rw (toZ-ofZ (s .fits .dx), toZ-ofZ (s .fits .dy)) at (c .before .before .put-pair .ensures))
-
-same-length-2 : tie.Need-same-length-2
-same-length-2 c = search needs
 
 returns-2 : tie.Need-returns-2
 unfolding jefCmd
@@ -66,15 +45,9 @@ returns-3 : tie.Need-returns-3
 unfolding jefCmd
 returns-3 c = rw (c .enum-told3 .given .1) (put-nothing (now (c .before .before .before .args .out)) (c .before .before .before .args .at))
 
-same-length-3 : tie.Need-same-length-3
-same-length-3 c = search needs
-
 returns-4 : tie.Need-returns-4
 unfolding jefCmd
 returns-4 c = rw (c .before .before .before .before .enum-told4 .given .1) (c .before .before .put4 .ensures)
-
-same-length-4 : tie.Need-same-length-4
-same-length-4 c = search needs
 
 returns-5 : tie.Need-returns-5
 unfolding jefCmd
@@ -84,21 +57,6 @@ pub jef-cmd-spec : {M : Type 1} → statement M
 jef-cmd-spec =
     tie.close
     (tie.spec
-    enum-told
-    put-pair-requires
-    enum-told-2
-    put-jump-requires
-    enum-told-3
-    enum-told-4
-    put4-requires
-    enum-told-5
-    put2-requires
-    same-length
-    returns
-    same-length-2
-    returns-2
-    returns-3
-    same-length-3
-    returns-4
-    same-length-4
-    returns-5)
+    (λ c. search needs) put-pair-requires (λ c. search needs) put-jump-requires (λ c. search needs)
+    (λ c. search needs) put4-requires (λ c. search needs) put2-requires (λ c. search needs) returns
+    (λ c. search needs) returns-2 returns-3 (λ c. search needs) returns-4 (λ c. search needs) returns-5)

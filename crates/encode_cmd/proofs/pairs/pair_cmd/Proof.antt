@@ -9,9 +9,6 @@ jef-cmd-requires c κs =
     let s = c .before .before .before in
     rw (toZ-ofZ (s .fits .dx), toZ-ofZ (s .fits .dy)) (rw (c .before .if1 .taken) at (s .pre))
 
-same-length : tie.Need-same-length
-same-length c = search needs
-
 returns : tie.Need-returns
 returns c =
     let s = c .before .before .before .before .before .before in
@@ -22,9 +19,6 @@ exp-cmd-requires c κs =
     let s = c .before .before .before in
     rw (toZ-ofZ (s .fits .dx), toZ-ofZ (s .fits .dy)) (rw (c .before .if1 .left) at (s .pre))
 
-same-length-2 : tie.Need-same-length-2
-same-length-2 c = search needs
-
 returns-2 : tie.Need-returns-2
 returns-2 c =
     let s = c .before .before .before .before .before .before in
@@ -33,4 +27,4 @@ returns-2 c =
 pub pair-cmd-spec : {M : Type 1} → statement M
 pair-cmd-spec =
     tie.close
-    (tie.spec jef-cmd-requires same-length returns exp-cmd-requires same-length-2 returns-2)
+    (tie.spec jef-cmd-requires (λ c. search needs) returns exp-cmd-requires (λ c. search needs) returns-2)

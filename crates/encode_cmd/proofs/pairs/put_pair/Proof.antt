@@ -6,18 +6,6 @@ use Rattle.laws.specs.Buffers.{put-as}
 use Rattle.encode_cmd.proofs.pairs.put_pair.Statement.{statement}
 use Rattle.encode_cmd.proofs.pairs.put_pair.Tie as tie
 
-low-byte-requires : tie.Need-low-byte-requires
-low-byte-requires c κs = search needs
-
-minus-byte-requires : tie.Need-minus-byte-requires
-minus-byte-requires c κs = search needs
-
-put2-requires : tie.Need-put2-requires
-put2-requires c κs = search needs
-
-same-length : tie.Need-same-length
-same-length c = search needs
-
 returns : tie.Need-returns
 unfolding pairOf
 returns c =
@@ -28,4 +16,6 @@ returns c =
 
 pub put-pair-spec : {M : Type 1} → statement M
 put-pair-spec =
-    tie.close (tie.spec low-byte-requires minus-byte-requires put2-requires same-length returns)
+    tie.close
+    (tie.spec
+    (λ c κs. search needs) (λ c κs. search needs) (λ c κs. search needs) (λ c. search needs) returns)

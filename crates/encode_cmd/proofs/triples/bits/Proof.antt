@@ -24,14 +24,8 @@ sum c =
     let e = bits-are (a .plus) (a .minus) d (mod-lt (a .t / a .weight) (omega arith)) in
     (e, omega (arith, pair-most (a .plus) (a .minus) (trit d)))
 
-div-d : tie.Need-div-d
-div-d c = search needs
-
 mul-result : tie.Need-mul-result
 mul-result c = record { fits = omega (arith, sum c) }
-
-sub-result : tie.Need-sub-result
-sub-result c = search needs
 
 mul-result-2 : tie.Need-mul-result-2
 mul-result-2 c = record { fits = omega (arith, sum c) }
@@ -43,4 +37,4 @@ returns : tie.Need-returns
 returns c = sum c
 
 pub bits-spec : {M : Type 1} → statement M
-bits-spec = tie.close (tie.spec div-d mul-result sub-result mul-result-2 add-result returns)
+bits-spec = tie.close (tie.spec (λ c. search needs) mul-result (λ c. search needs) mul-result-2 add-result returns)

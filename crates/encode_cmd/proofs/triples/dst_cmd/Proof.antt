@@ -7,17 +7,11 @@ use Rattle.encode_cmd.specs.Cmds.{most}
 use Rattle.encode_cmd.proofs.triples.dst_cmd.Statement.{statement}
 use Rattle.encode_cmd.proofs.triples.dst_cmd.Tie as tie
 
-enum-told : tie.Need-enum-told
-enum-told c = search needs
-
 put-move-requires : tie.Need-put-move-requires
 unfolding dstCmd dstBytes most
 put-move-requires c κs =
     let s = c .before .before .before .before .before .before in
     rw (toZ-ofZ (s .fits .dx), toZ-ofZ (s .fits .dy)) ((omega arith, s .pre .0), (s .pre .1 .0, rw (c .before .enum-told .given .1) at (s .pre .1 .1)))
-
-enum-told-2 : tie.Need-enum-told-2
-enum-told-2 c = search needs
 
 put-move-requires-2 : tie.Need-put-move-requires-2
 unfolding dstCmd dstBytes most
@@ -25,29 +19,17 @@ put-move-requires-2 c κs =
     let s = c .before .before .before .before .before .before in
     rw (toZ-ofZ (s .fits .dx), toZ-ofZ (s .fits .dy)) ((omega arith, s .pre .0), (s .pre .1 .0, rw (c .before .enum-told2 .given .1) at (s .pre .1 .1)))
 
-enum-told-3 : tie.Need-enum-told-3
-enum-told-3 c = search needs
-
 put-trim-requires : tie.Need-put-trim-requires
 unfolding dstCmd dstBytes
 put-trim-requires c κs = rw (c .before .enum-told3 .given .1) at (c .before .before .before .before .before .before .pre .1 .1)
-
-enum-told-4 : tie.Need-enum-told-4
-enum-told-4 c = search needs
 
 put3-requires : tie.Need-put3-requires
 unfolding dstCmd
 put3-requires c κs = rw (c .before .enum-told4 .given .1) at (c .before .before .before .before .before .before .pre .1 .1)
 
-enum-told-5 : tie.Need-enum-told-5
-enum-told-5 c = search needs
-
 put3-requires-2 : tie.Need-put3-requires-2
 unfolding dstCmd
 put3-requires-2 c κs = rw (c .before .enum-told5 .given .1) at (c .before .before .before .before .before .before .pre .1 .1)
-
-same-length : tie.Need-same-length
-same-length c = search needs
 
 returns : tie.Need-returns
 unfolding dstCmd
@@ -55,31 +37,19 @@ returns c =
     let s = c .before .before .before .before .before .before .before .before .before in
     rw (c .before .before .before .before .enum-told .given .1) (rw (toZ-ofZ (s .fits .dx), toZ-ofZ (s .fits .dy)) at (c .before .before .put-move .ensures))
 
-same-length-2 : tie.Need-same-length-2
-same-length-2 c = search needs
-
 returns-2 : tie.Need-returns-2
 unfolding dstCmd
 returns-2 c =
     let s = c .before .before .before .before .before .before .before .before .before in
     rw (c .before .before .before .before .enum-told2 .given .1) (rw (toZ-ofZ (s .fits .dx), toZ-ofZ (s .fits .dy)) at (c .before .before .put-move2 .ensures))
 
-same-length-3 : tie.Need-same-length-3
-same-length-3 c = search needs
-
 returns-3 : tie.Need-returns-3
 unfolding dstCmd
 returns-3 c = rw (c .before .before .before .before .enum-told3 .given .1) (c .before .before .put-trim .ensures)
 
-same-length-4 : tie.Need-same-length-4
-same-length-4 c = search needs
-
 returns-4 : tie.Need-returns-4
 unfolding dstCmd
 returns-4 c = rw (c .before .before .before .before .enum-told4 .given .1) (c .before .before .put3 .ensures)
-
-same-length-5 : tie.Need-same-length-5
-same-length-5 c = search needs
 
 returns-5 : tie.Need-returns-5
 unfolding dstCmd
@@ -89,23 +59,7 @@ pub dst-cmd-spec : {M : Type 1} → statement M
 dst-cmd-spec =
     tie.close
     (tie.spec
-    enum-told
-    put-move-requires
-    enum-told-2
-    put-move-requires-2
-    enum-told-3
-    put-trim-requires
-    enum-told-4
-    put3-requires
-    enum-told-5
-    put3-requires-2
-    same-length
-    returns
-    same-length-2
-    returns-2
-    same-length-3
-    returns-3
-    same-length-4
-    returns-4
-    same-length-5
-    returns-5)
+    (λ c. search needs) put-move-requires (λ c. search needs) put-move-requires-2 (λ c. search needs)
+    put-trim-requires (λ c. search needs) put3-requires (λ c. search needs) put3-requires-2 (λ c. search needs)
+    returns (λ c. search needs) returns-2 (λ c. search needs) returns-3 (λ c. search needs) returns-4
+    (λ c. search needs) returns-5)

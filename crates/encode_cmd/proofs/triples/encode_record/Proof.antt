@@ -7,71 +7,11 @@ use Rattle.encode_cmd.proofs.Digits.{raised-digits, lowered-digits}
 use Rattle.encode_cmd.proofs.triples.encode_record.Statement.{statement}
 use Rattle.encode_cmd.proofs.triples.encode_record.Tie as tie
 
-raised-requires : tie.Need-raised-requires
-raised-requires c κs = search needs
-
 cast-x : tie.Need-cast-x
 cast-x c = omega (ints, seen (c .before .fits .dx), abs-is (c .before .args .dx))
 
-lowered-requires : tie.Need-lowered-requires
-lowered-requires c κs = search needs
-
 cast-y : tie.Need-cast-y
 cast-y c = omega (ints, seen (c .before .before .fits .dy), abs-is (c .before .before .args .dy))
-
-bits-requires : tie.Need-bits-requires
-bits-requires c κs = search needs
-
-bits-requires-2 : tie.Need-bits-requires-2
-bits-requires-2 c κs = search needs
-
-add-t9 : tie.Need-add-t9
-add-t9 c = search needs
-
-bits-requires-3 : tie.Need-bits-requires-3
-bits-requires-3 c κs = search needs
-
-add-t11 : tie.Need-add-t11
-add-t11 c = search needs
-
-bits-requires-4 : tie.Need-bits-requires-4
-bits-requires-4 c κs = search needs
-
-add-t13 : tie.Need-add-t13
-add-t13 c = search needs
-
-bits-requires-5 : tie.Need-bits-requires-5
-bits-requires-5 c κs = search needs
-
-bits-requires-6 : tie.Need-bits-requires-6
-bits-requires-6 c κs = search needs
-
-add-t16 : tie.Need-add-t16
-add-t16 c = search needs
-
-bits-requires-7 : tie.Need-bits-requires-7
-bits-requires-7 c κs = search needs
-
-add-t18 : tie.Need-add-t18
-add-t18 c = search needs
-
-bits-requires-8 : tie.Need-bits-requires-8
-bits-requires-8 c κs = search needs
-
-add-t20 : tie.Need-add-t20
-add-t20 c = search needs
-
-bits-requires-9 : tie.Need-bits-requires-9
-bits-requires-9 c κs = search needs
-
-add-t22 : tie.Need-add-t22
-add-t22 c = search needs
-
-bits-requires-10 : tie.Need-bits-requires-10
-bits-requires-10 c κs = search needs
-
-add-t24 : tie.Need-add-t24
-add-t24 c = search needs
 
 returns : tie.Need-returns
 unfolding dstBytes
@@ -98,26 +38,8 @@ pub encode-record-spec : {M : Type 1} → statement M
 encode-record-spec =
     tie.close
     (tie.spec
-    raised-requires
-    cast-x
-    lowered-requires
-    cast-y
-    bits-requires
-    bits-requires-2
-    add-t9
-    bits-requires-3
-    add-t11
-    bits-requires-4
-    add-t13
-    bits-requires-5
-    bits-requires-6
-    add-t16
-    bits-requires-7
-    add-t18
-    bits-requires-8
-    add-t20
-    bits-requires-9
-    add-t22
-    bits-requires-10
-    add-t24
-    returns)
+    (λ c κs. search needs) cast-x (λ c κs. search needs) cast-y (λ c κs. search needs) (λ c κs. search needs)
+    (λ c. search needs) (λ c κs. search needs) (λ c. search needs) (λ c κs. search needs) (λ c. search needs)
+    (λ c κs. search needs) (λ c κs. search needs) (λ c. search needs) (λ c κs. search needs) (λ c. search needs)
+    (λ c κs. search needs) (λ c. search needs) (λ c κs. search needs) (λ c. search needs) (λ c κs. search needs)
+    (λ c. search needs) returns)

@@ -25,32 +25,11 @@ sum c =
 few : (c : tie.After-encode-record) → (let a = c .before .args in fromLittle (dstBytes 0 (a .dx) (negℤ (a .dy))) < 16777216)
 few c = packed-most 0 (c .before .args .dx) (negℤ (c .before .args .dy)) (omega arith)
 
-encode-record-requires : tie.Need-encode-record-requires
-encode-record-requires c κs = search needs
-
-array-read-result : tie.Need-array-read-result
-array-read-result c = search needs
-
-cast-result : tie.Need-cast-result
-cast-result c = search needs
-
-array-read-result-2 : tie.Need-array-read-result-2
-array-read-result-2 c = search needs
-
-cast-result-2 : tie.Need-cast-result-2
-cast-result-2 c = search needs
-
 mul-result : tie.Need-mul-result
 mul-result c = omega (arith, sum c, few c)
 
 add-result : tie.Need-add-result
 add-result c = omega (arith, sum c, few c)
-
-array-read-result-3 : tie.Need-array-read-result-3
-array-read-result-3 c = search needs
-
-cast-result-3 : tie.Need-cast-result-3
-cast-result-3 c = search needs
 
 mul-result-2 : tie.Need-mul-result-2
 mul-result-2 c = omega (arith, sum c, few c)
@@ -65,15 +44,5 @@ pub packed-spec : {M : Type 1} → statement M
 packed-spec =
     tie.close
     (tie.spec
-    encode-record-requires
-    array-read-result
-    cast-result
-    array-read-result-2
-    cast-result-2
-    mul-result
-    add-result
-    array-read-result-3
-    cast-result-3
-    mul-result-2
-    add-result-2
-    returns)
+    (λ c κs. search needs) (λ c. search needs) (λ c. search needs) (λ c. search needs) (λ c. search needs)
+    mul-result add-result (λ c. search needs) (λ c. search needs) mul-result-2 add-result-2 returns)

@@ -16,9 +16,6 @@ use Rattle.encode_cmd.proofs.Parts.{packed-most, unpacked, bits-sum, pa
 use Rattle.encode_cmd.proofs.triples.put_move.Statement.{statement}
 use Rattle.encode_cmd.proofs.triples.put_move.Tie as tie
 
-mul-v : tie.Need-mul-v
-mul-v c = search needs
-
 raised-requires : tie.Need-raised-requires
 unfolding most
 raised-requires c κs = let s = c .before .before .before in rw (toZ-ofZ (s .fits .dx)) (s .pre .0 .1 .x)
@@ -73,12 +70,6 @@ add-v-2 c =
     let y = packed-most 0 (pos 0) (negℤ (s .args .dy)) (omega arith) in
     omega (arith, at-x (c .before .before .before) .1, at-y (c .before) .1, s .pre .0 .0)
 
-put-three-requires : tie.Need-put-three-requires
-put-three-requires c κs = search needs
-
-same-length : tie.Need-same-length
-same-length c = search needs
-
 returns : tie.Need-returns
 returns c =
     let low = c .before .before .before .before .before in
@@ -93,15 +84,5 @@ pub put-move-spec : {M : Type 1} → statement M
 put-move-spec =
     tie.close
     (tie.spec
-    mul-v
-    raised-requires
-    mul-v-2
-    shared-slice-read-v
-    add-v
-    lowered-requires
-    mul-v-3
-    shared-slice-read-v-2
-    add-v-2
-    put-three-requires
-    same-length
-    returns)
+    (λ c. search needs) raised-requires mul-v-2 shared-slice-read-v add-v lowered-requires mul-v-3
+    shared-slice-read-v-2 add-v-2 (λ c κs. search needs) (λ c. search needs) returns)

@@ -6,9 +6,6 @@ use Rattle.laws.specs.Buffers.{put-put, put-length}
 use Rattle.encode_cmd.proofs.triples.put_trim.Statement.{statement}
 use Rattle.encode_cmd.proofs.triples.put_trim.Tie as tie
 
-put-record-requires : tie.Need-put-record-requires
-put-record-requires c κs = search needs
-
 put-record-requires-2 : tie.Need-put-record-requires-2
 unfolding dstBytes
 put-record-requires-2 c κs =
@@ -23,9 +20,6 @@ put-record-requires-3 c κs =
     let r = q .put-record2 .ensures in
     ((omega arith, (omega arith, omega arith)), omega (arith, p .ends, r .ends, put-length p, put-length r))
 
-same-length : tie.Need-same-length
-same-length c = search needs
-
 returns : tie.Need-returns
 unfolding dstCmd
 returns c =
@@ -37,4 +31,4 @@ returns c =
 pub put-trim-spec : {M : Type 1} → statement M
 put-trim-spec =
     tie.close
-    (tie.spec put-record-requires put-record-requires-2 put-record-requires-3 same-length returns)
+    (tie.spec (λ c κs. search needs) put-record-requires-2 put-record-requires-3 (λ c. search needs) returns)

@@ -50,13 +50,4 @@ pub table-spec : {M : Type 1} → statement M
 table-spec =
     tie.close
     (tie.spec
-    Inv-loop
-    μ-loop
-    loop-holds
-    part-requires
-    mul-parts
-    array-write-parts
-    add-t
-    loop-less
-    loop-again
-    returns)
+    Inv-loop μ-loop loop-holds part-requires mul-parts array-write-parts add-t loop-less loop-again returns)

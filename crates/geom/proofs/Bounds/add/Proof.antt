@@ -6,9 +6,6 @@ use borrow.Author.Needs.{needs}
 use Rattle.geom.proofs.Bounds.add.Statement.{statement}
 use Rattle.geom.proofs.Bounds.add.Tie as tie
 
-widened-requires : tie.Need-widened-requires
-widened-requires c κs = search needs
-
 returns : tie.Need-returns
 returns c =
     let s = c .before .before .before .before .before .before .before .args .self in
@@ -23,4 +20,4 @@ returns c =
     rw (c .widened .ensures) (simp (toZ-ofZ f₁, toZ-ofZ f₂, toZ-ofZ f₃, toZ-ofZ f₄, toZ-ofZ f₅, toZ-ofZ f₆))
 
 pub add-spec : {M : Type 1} → statement M
-add-spec = tie.close (tie.spec widened-requires returns)
+add-spec = tie.close (tie.spec (λ c κs. search needs) returns)

@@ -5,18 +5,9 @@ use borrow.Author.Needs.{needs}
 use Rattle.more.proofs.exp.write_accepted.Statement.{statement}
 use Rattle.more.proofs.exp.write_accepted.Tie as tie
 
-stream-len-requires : tie.Need-stream-len-requires
-stream-len-requires c κs = search needs
-
 returns : tie.Need-returns
 unfolding expFile
 returns c = unwritten (rw (← c .before .stream-len .ensures) (c .if1 .taken))
-
-put-stream-requires : tie.Need-put-stream-requires
-put-stream-requires c κs = search needs
-
-same-length : tie.Need-same-length
-same-length c = search needs
 
 returns-2 : tie.Need-returns-2
 unfolding expFile
@@ -24,4 +15,4 @@ returns-2 c = written (rw (← c .before .before .before .before .before .stream
 
 pub write-accepted-spec : {M : Type 1} → statement M
 write-accepted-spec =
-    tie.close (tie.spec stream-len-requires returns put-stream-requires same-length returns-2)
+    tie.close (tie.spec (λ c κs. search needs) returns (λ c κs. search needs) (λ c. search needs) returns-2)

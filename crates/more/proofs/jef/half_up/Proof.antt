@@ -5,12 +5,9 @@ use borrow.Author.Needs.{needs}
 use Rattle.more.proofs.jef.half_up.Statement.{statement}
 use Rattle.more.proofs.jef.half_up.Tie as tie
 
-add-result : tie.Need-add-result
-add-result c = search needs
-
 returns : tie.Need-returns
 unfolding halfUp
 returns c = omega arith
 
 pub half-up-spec : {M : Type 1} → statement M
-half-up-spec = tie.close (tie.spec add-result returns)
+half-up-spec = tie.close (tie.spec (λ c. search needs) returns)

@@ -5,29 +5,17 @@ use borrow.Author.Needs.{needs}
 use Rattle.more.proofs.jef.jef_hoop.Statement.{statement}
 use Rattle.more.proofs.jef.jef_hoop.Tie as tie
 
-is-under-requires : tie.Need-is-under-requires
-is-under-requires c κs = search needs
-
 returns : tie.Need-returns
 unfolding jefHoop
 returns c = rw (sym (c .before .is-under .ensures) ∙ c .if1 .taken)
-
-is-under-requires-2 : tie.Need-is-under-requires-2
-is-under-requires-2 c κs = search needs
 
 returns-2 : tie.Need-returns-2
 unfolding jefHoop
 returns-2 c = rw (sym (c .before .before .before .is-under .ensures) ∙ c .before .before .if1 .left, sym (c .before .is-under2 .ensures) ∙ c .if2 .taken)
 
-is-under-requires-3 : tie.Need-is-under-requires-3
-is-under-requires-3 c κs = search needs
-
 returns-3 : tie.Need-returns-3
 unfolding jefHoop
 returns-3 c = rw (sym (c .before .before .before .before .before .is-under .ensures) ∙ c .before .before .before .before .if1 .left, sym (c .before .before .before .is-under2 .ensures) ∙ c .before .before .if2 .left, sym (c .before .is-under3 .ensures) ∙ c .if3 .taken)
-
-is-under-requires-4 : tie.Need-is-under-requires-4
-is-under-requires-4 c κs = search needs
 
 returns-4 : tie.Need-returns-4
 unfolding jefHoop
@@ -41,12 +29,5 @@ pub jef-hoop-spec : {M : Type 1} → statement M
 jef-hoop-spec =
     tie.close
     (tie.spec
-    is-under-requires
-    returns
-    is-under-requires-2
-    returns-2
-    is-under-requires-3
-    returns-3
-    is-under-requires-4
-    returns-4
-    returns-5)
+    (λ c κs. search needs) returns (λ c κs. search needs) returns-2 (λ c κs. search needs) returns-3
+    (λ c κs. search needs) returns-4 returns-5)

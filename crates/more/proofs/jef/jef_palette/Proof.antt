@@ -13,17 +13,11 @@ use Rattle.more.proofs.jef.jef_palette.Tie as tie
 put-word-requires : tie.Need-put-word-requires
 put-word-requires c κs = omega (arith, ap length (table-none (now (c .before .before .before .before .args .threads)) (c .before .if1 .taken)), length-little 4 1)
 
-same-length : tie.Need-same-length
-same-length c = search needs
-
 returns : tie.Need-returns
 returns c = put-as (c .before .before .put-word .ensures) (table-none (now (c .before .before .before .before .before .before .before .args .threads)) (c .before .before .before .before .if1 .taken))
 
 put-entries-requires : tie.Need-put-entries-requires
 put-entries-requires c κs = omega (arith, ap length (table-some (now (c .before .before .before .before .args .threads)) (c .before .if1 .left)))
-
-same-length-2 : tie.Need-same-length-2
-same-length-2 c = search needs
 
 returns-2 : tie.Need-returns-2
 returns-2 c = put-as (c .before .before .put-entries .ensures) (table-some (now (c .before .before .before .before .before .before .before .args .threads)) (c .before .before .before .before .if1 .left))
@@ -31,4 +25,4 @@ returns-2 c = put-as (c .before .before .put-entries .ensures) (table-some (now 
 pub jef-palette-spec : {M : Type 1} → statement M
 jef-palette-spec =
     tie.close
-    (tie.spec put-word-requires same-length returns put-entries-requires same-length-2 returns-2)
+    (tie.spec put-word-requires (λ c. search needs) returns put-entries-requires (λ c. search needs) returns-2)

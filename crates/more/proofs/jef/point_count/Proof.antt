@@ -76,15 +76,5 @@ pub point-count-spec : {M : Type 1} → statement M
 point-count-spec =
     tie.close
     (tie.spec
-    Inv-loop
-    μ-loop
-    list-len-requires
-    loop-holds
-    shared-slice-read-op-of
-    op-of-requires
-    points-in-requires
-    add-total
-    add-i
-    loop-less
-    loop-again
-    returns)
+    Inv-loop μ-loop list-len-requires loop-holds shared-slice-read-op-of op-of-requires points-in-requires add-total
+    add-i loop-less loop-again returns)

@@ -30,9 +30,6 @@ nones Trim k = refl
 nones ColorChange k = absurd (miss (2 ∷ 4 ∷ []) 3 tt k)
 nones End k = refl
 
-enum-told : tie.Need-enum-told
-enum-told c = search needs
-
 returns : tie.Need-returns
 unfolding pointsIn
 returns c = (rw (c .enum-told .given .1), omega arith)
@@ -44,4 +41,4 @@ returns-3 : tie.Need-returns-3
 returns-3 c = (nones (c .before .args .op) (c .match .keys3), omega arith)
 
 pub points-in-spec : {M : Type 1} → statement M
-points-in-spec = tie.close (tie.spec enum-told returns returns-2 returns-3)
+points-in-spec = tie.close (tie.spec (λ c. search needs) returns returns-2 returns-3)

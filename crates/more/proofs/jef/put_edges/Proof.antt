@@ -6,39 +6,15 @@ use borrow.Author.Needs.{needs}
 use Rattle.more.proofs.jef.put_edges.Statement.{statement}
 use Rattle.more.proofs.jef.put_edges.Tie as tie
 
-half-up-requires : tie.Need-half-up-requires
-half-up-requires c κs = search needs
-
-half-up-requires-2 : tie.Need-half-up-requires-2
-half-up-requires-2 c κs = search needs
-
-put-times-requires : tie.Need-put-times-requires
-put-times-requires c κs = search needs
-
-same-length : tie.Need-same-length
-same-length c = search needs
-
 returns : tie.Need-returns
 returns c =
     let a = c .before .before .before .before .before .before .before .before .args in
     put-as (c .before .before .put-times .ensures) (too-wide (a .ex) (a .ey) (a .w) (a .h) (c .before .before .before .before .before .before .half-up .ensures) (c .before .before .before .before .before .half-up2 .ensures) (c .before .before .before .before .if1 .taken))
 
-put-times-requires-2 : tie.Need-put-times-requires-2
-put-times-requires-2 c κs = search needs
-
-same-length-2 : tie.Need-same-length-2
-same-length-2 c = search needs
-
 returns-2 : tie.Need-returns-2
 returns-2 c =
     let a = c .before .before .before .before .before .before .before .before .before .args in
     put-as (c .before .before .put-times2 .ensures) (too-high (a .ex) (a .ey) (a .w) (a .h) (c .before .before .before .before .before .before .before .half-up .ensures) (c .before .before .before .before .before .before .half-up2 .ensures) (c .before .before .before .before .if2 .taken))
-
-put-twice-requires : tie.Need-put-twice-requires
-put-twice-requires c κs = search needs
-
-same-length-3 : tie.Need-same-length-3
-same-length-3 c = search needs
 
 returns-3 : tie.Need-returns-3
 returns-3 c =
@@ -49,14 +25,5 @@ pub put-edges-spec : {M : Type 1} → statement M
 put-edges-spec =
     tie.close
     (tie.spec
-    half-up-requires
-    half-up-requires-2
-    put-times-requires
-    same-length
-    returns
-    put-times-requires-2
-    same-length-2
-    returns-2
-    put-twice-requires
-    same-length-3
-    returns-3)
+    (λ c κs. search needs) (λ c κs. search needs) (λ c κs. search needs) (λ c. search needs) returns
+    (λ c κs. search needs) (λ c. search needs) returns-2 (λ c κs. search needs) (λ c. search needs) returns-3)

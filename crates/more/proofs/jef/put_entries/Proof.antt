@@ -92,21 +92,6 @@ pub put-entries-spec : {M : Type 1} → statement M
 put-entries-spec =
     tie.close
     (tie.spec
-    Inv-loop
-    μ-loop
-    jef-threads-requires
-    loop-holds
-    add-loop
-    shared-slice-read-t14
-    add-t10
-    shared-slice-read-t16
-    add-t11
-    shared-slice-read-t18
-    choice-in-requires
-    cast-put-word
-    put-word-requires
-    add-i
-    loop-less
-    loop-again
-    same-length
-    returns)
+    Inv-loop μ-loop jef-threads-requires loop-holds add-loop shared-slice-read-t14 add-t10 shared-slice-read-t16
+    add-t11 shared-slice-read-t18 choice-in-requires cast-put-word put-word-requires add-i loop-less loop-again
+    same-length returns)

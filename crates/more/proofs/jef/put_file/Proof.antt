@@ -23,12 +23,9 @@ put-stream-requires c κs =
     let ts = threadsOf (now (a .threads)) in
     (c .before .before .before .before .before .before .before .before .pre .0 .1 .1, omega (arith, length-file cs ts, c .before .before .before .put-header .ensures .ends, put-length (c .before .before .before .put-header .ensures), c .before .before .before .before .before .before .before .before .pre .1 .1))
 
-same-length : tie.Need-same-length
-same-length c = search needs
-
 returns : tie.Need-returns
 unfolding jefFile
 returns c = put-put (c .before .before .before .before .before .before .put-header .ensures) (c .before .before .put-stream .ensures)
 
 pub put-file-spec : {M : Type 1} → statement M
-put-file-spec = tie.close (tie.spec put-header-requires put-stream-requires same-length returns)
+put-file-spec = tie.close (tie.spec put-header-requires put-stream-requires (λ c. search needs) returns)

@@ -9,23 +9,8 @@ use borrow.Author.Needs.{needs}
 use Rattle.more.proofs.jef.put_header.Statement.{statement}
 use Rattle.more.proofs.jef.put_header.Tie as tie
 
-table-len-requires : tie.Need-table-len-requires
-table-len-requires c κs = search needs
-
-near-bounds-requires : tie.Need-near-bounds-requires
-near-bounds-requires c κs = search needs
-
-spread-requires : tie.Need-spread-requires
-spread-requires c κs = search needs
-
-spread-requires-2 : tie.Need-spread-requires-2
-spread-requires-2 c κs = search needs
-
 point-count-requires : tie.Need-point-count-requires
 point-count-requires c κs = c .before .before .before .before .before .before .before .before .before .before .before .pre .0 .0
-
-jef-hoop-requires : tie.Need-jef-hoop-requires
-jef-hoop-requires c κs = search needs
 
 put-start-requires : tie.Need-put-start-requires
 put-start-requires c κs =
@@ -61,9 +46,6 @@ put-kinds-requires c κs =
     (c .before .before .before .before .before .before .before .put-sizes .ensures) (length-sizes (c .before .before .before .before .before .before .before .before .before .before .before .before .before .before .before .before .before .before .spread .result) (c .before .before .before .before .before .before .before .before .before .before .before .before .before .before .before .spread2 .result))
     (c .before .before .before .jef-palette .ensures) (c .before .before .before .before .before .before .before .before .before .before .before .before .before .before .before .before .before .before .before .before .before .before .table-len .ensures)
 
-same-length : tie.Need-same-length
-same-length c = search needs
-
 returns : tie.Need-returns
 returns c =
     let a = c .before .before .before .before .before .before .before .before .before .before .before .before .before .before .before .before .before .before .before .before .before .before .before .before .before .before .before .before .before .args in
@@ -80,15 +62,6 @@ pub put-header-spec : {M : Type 1} → statement M
 put-header-spec =
     tie.close
     (tie.spec
-    table-len-requires
-    near-bounds-requires
-    spread-requires
-    spread-requires-2
-    point-count-requires
-    jef-hoop-requires
-    put-start-requires
-    put-sizes-requires
-    jef-palette-requires
-    put-kinds-requires
-    same-length
-    returns)
+    (λ c κs. search needs) (λ c κs. search needs) (λ c κs. search needs) (λ c κs. search needs) point-count-requires
+    (λ c κs. search needs) put-start-requires put-sizes-requires jef-palette-requires put-kinds-requires
+    (λ c. search needs) returns)

@@ -53,12 +53,4 @@ pub put-kinds-spec : {M : Type 1} → statement M
 put-kinds-spec =
     tie.close
     (tie.spec
-    Inv-loop
-    μ-loop
-    loop-holds
-    put-word-requires
-    sub-left
-    loop-less
-    loop-again
-    same-length
-    returns)
+    Inv-loop μ-loop loop-holds put-word-requires sub-left loop-less loop-again same-length returns)

@@ -9,15 +9,6 @@ use borrow.Author.Needs.{needs}
 use Rattle.more.proofs.jef.put_sizes.Statement.{statement}
 use Rattle.more.proofs.jef.put_sizes.Tie as tie
 
-half-up-requires : tie.Need-half-up-requires
-half-up-requires c κs = search needs
-
-half-up-requires-2 : tie.Need-half-up-requires-2
-half-up-requires-2 c κs = search needs
-
-put-twice-requires : tie.Need-put-twice-requires
-put-twice-requires c κs = search needs
-
 put-edges-requires : tie.Need-put-edges-requires
 put-edges-requires c κs =
     let x = c .before .before .before .before .before .before .half-up .result in
@@ -73,9 +64,6 @@ put-edges-requires-4 c κs =
       put-length (c .before .before .before .put-edges3 .ensures),
     )
 
-same-length : tie.Need-same-length
-same-length c = search needs
-
 returns : tie.Need-returns
 unfolding joined
 returns c =
@@ -89,12 +77,5 @@ pub put-sizes-spec : {M : Type 1} → statement M
 put-sizes-spec =
     tie.close
     (tie.spec
-    half-up-requires
-    half-up-requires-2
-    put-twice-requires
-    put-edges-requires
-    put-edges-requires-2
-    put-edges-requires-3
-    put-edges-requires-4
-    same-length
-    returns)
+    (λ c κs. search needs) (λ c κs. search needs) (λ c κs. search needs) put-edges-requires put-edges-requires-2
+    put-edges-requires-3 put-edges-requires-4 (λ c. search needs) returns)

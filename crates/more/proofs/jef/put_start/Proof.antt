@@ -8,18 +8,6 @@ use borrow.Author.Needs.{needs}
 use Rattle.more.proofs.jef.put_start.Statement.{statement}
 use Rattle.more.proofs.jef.put_start.Tie as tie
 
-mul-put-word : tie.Need-mul-put-word
-mul-put-word c = search needs
-
-add-put-word : tie.Need-add-put-word
-add-put-word c = search needs
-
-cast-put-word : tie.Need-cast-put-word
-cast-put-word c = search needs
-
-put-word-requires : tie.Need-put-word-requires
-put-word-requires c κs = search needs
-
 put-word-requires-2 : tie.Need-put-word-requires-2
 put-word-requires-2 c κs =
     let a = c .before .before .before .before .before .before .args in
@@ -28,9 +16,6 @@ put-word-requires-2 c κs =
       length-little 4 (0x74 + 8 * a .n),
       put-length (c .before .before .before .put-word .ensures),
     )
-
-slice-aggregate-put-text : tie.Need-slice-aggregate-put-text
-slice-aggregate-put-text c = search needs
 
 put-text-requires : tie.Need-put-text-requires
 put-text-requires c κs =
@@ -54,9 +39,6 @@ put2-requires c κs =
       put-length (c .before .before .before .before .before .before .before .before .put-word2 .ensures),
       put-length (c .before .before .before .put-text .ensures),
     )
-
-cast-put-word-2 : tie.Need-cast-put-word-2
-cast-put-word-2 c = search needs
 
 put-word-requires-3 : tie.Need-put-word-requires-3
 put-word-requires-3 c κs =
@@ -103,9 +85,6 @@ put-word-requires-5 c κs =
       put-length (c .before .before .before .put-word4 .ensures),
     )
 
-same-length : tie.Need-same-length
-same-length c = search needs
-
 returns : tie.Need-returns
 unfolding joined
 returns c =
@@ -120,17 +99,6 @@ pub put-start-spec : {M : Type 1} → statement M
 put-start-spec =
     tie.close
     (tie.spec
-    mul-put-word
-    add-put-word
-    cast-put-word
-    put-word-requires
-    put-word-requires-2
-    slice-aggregate-put-text
-    put-text-requires
-    put2-requires
-    cast-put-word-2
-    put-word-requires-3
-    put-word-requires-4
-    put-word-requires-5
-    same-length
-    returns)
+    (λ c. search needs) (λ c. search needs) (λ c. search needs) (λ c κs. search needs) put-word-requires-2
+    (λ c. search needs) put-text-requires put2-requires (λ c. search needs) put-word-requires-3 put-word-requires-4
+    put-word-requires-5 (λ c. search needs) returns)

@@ -8,9 +8,6 @@ use borrow.Author.Needs.{needs}
 use Rattle.more.proofs.jef.put_twice.Statement.{statement}
 use Rattle.more.proofs.jef.put_twice.Tie as tie
 
-put-word-requires : tie.Need-put-word-requires
-put-word-requires c κs = search needs
-
 put-word-requires-2 : tie.Need-put-word-requires-2
 put-word-requires-2 c κs =
     let a = c .before .before .before .before .before .before .args in
@@ -43,9 +40,6 @@ put-word-requires-4 c κs =
       put-length (c .before .before .before .put-word3 .ensures),
     )
 
-same-length : tie.Need-same-length
-same-length c = search needs
-
 returns : tie.Need-returns
 unfolding words joined
 returns c =
@@ -58,9 +52,4 @@ pub put-twice-spec : {M : Type 1} → statement M
 put-twice-spec =
     tie.close
     (tie.spec
-    put-word-requires
-    put-word-requires-2
-    put-word-requires-3
-    put-word-requires-4
-    same-length
-    returns)
+    (λ c κs. search needs) put-word-requires-2 put-word-requires-3 put-word-requires-4 (λ c. search needs) returns)

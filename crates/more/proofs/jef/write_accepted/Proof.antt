@@ -12,9 +12,6 @@ use borrow.Author.Needs.{needs}
 use Rattle.more.proofs.jef.write_accepted.Statement.{statement}
 use Rattle.more.proofs.jef.write_accepted.Tie as tie
 
-table-len-requires : tie.Need-table-len-requires
-table-len-requires c κs = search needs
-
 mul-n : tie.Need-mul-n
 mul-n c =
     let a = c .before .before .before .before .args in
@@ -24,9 +21,6 @@ add-n : tie.Need-add-n
 add-n c =
     let a = c .before .before .before .before .args in
     omega (arith, c .table-len .ensures, length-table (now (a .threads)), c .before .before .before .before .pre)
-
-stream-len-requires : tie.Need-stream-len-requires
-stream-len-requires c κs = search needs
 
 add-n-2 : tie.Need-add-n-2
 add-n-2 c =
@@ -47,9 +41,6 @@ put-file-requires c κs =
     let ts = threadsOf (now (a .threads)) in
     (c .before .before .before .before .before .before .before .pre .0, (c .before .before .before .before .before .before .before .pre .1, omega (arith, length-file cs ts, length-header cs ts, c .before .before .before .table-len .ensures, c .before .before .stream-len .ensures, c .before .if1 .left)))
 
-same-length : tie.Need-same-length
-same-length c = search needs
-
 returns-2 : tie.Need-returns-2
 returns-2 c =
     let a = c .before .before .before .before .before .before .before .before .before .before .args in
@@ -61,12 +52,5 @@ pub write-accepted-spec : {M : Type 1} → statement M
 write-accepted-spec =
     tie.close
     (tie.spec
-    table-len-requires
-    mul-n
-    add-n
-    stream-len-requires
-    add-n-2
-    returns
-    put-file-requires
-    same-length
+    (λ c κs. search needs) mul-n add-n (λ c κs. search needs) add-n-2 returns put-file-requires (λ c. search needs)
     returns-2)

@@ -4,15 +4,6 @@ use borrow.Author.Needs.{needs}
 use Rattle.passes.proofs.answers.after_stretch.Statement.{statement}
 use Rattle.passes.proofs.answers.after_stretch.Tie as tie
 
-put-start-requires : tie.Need-put-start-requires
-put-start-requires c κs = search needs
-
-after-stitches-requires : tie.Need-after-stitches-requires
-after-stitches-requires c κs = search needs
-
-same-length : tie.Need-same-length
-same-length c = search needs
-
 returns : tie.Need-returns
 returns c =
     let k = c .before .before .before .before .before .before .args .k in
@@ -21,4 +12,4 @@ returns c =
 
 pub after-stretch-spec : {M : Type 1} → statement M
 after-stretch-spec =
-    tie.close (tie.spec put-start-requires after-stitches-requires same-length returns)
+    tie.close (tie.spec (λ c κs. search needs) (λ c κs. search needs) (λ c. search needs) returns)

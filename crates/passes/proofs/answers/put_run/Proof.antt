@@ -12,20 +12,11 @@ returns : tie.Need-returns
 unfolding runOf
 returns c = rw (c .if1 .taken)
 
-cast-at : tie.Need-cast-at
-cast-at c = search needs
-
-mul-runs : tie.Need-mul-runs
-mul-runs c = search needs
-
 slice-write-runs : tie.Need-slice-write-runs
 slice-write-runs c = omega (arith, ap length (in-run _ (c .before .if1 .left) .run))
-
-same-length : tie.Need-same-length
-same-length c = search needs
 
 returns-2 : tie.Need-returns-2
 returns-2 c = rw (in-run _ (c .before .if1 .left) .run)
 
 pub put-run-spec : {M : Type 1} → statement M
-put-run-spec = tie.close (tie.spec returns cast-at mul-runs slice-write-runs same-length returns-2)
+put-run-spec = tie.close (tie.spec returns (λ c. search needs) (λ c. search needs) slice-write-runs (λ c. search needs) returns-2)

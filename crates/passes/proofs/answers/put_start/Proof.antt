@@ -11,18 +11,12 @@ use borrow.Author.Needs.{needs}
 use Rattle.passes.proofs.answers.put_start.Statement.{statement}
 use Rattle.passes.proofs.answers.put_start.Tie as tie
 
-returns : tie.Need-returns
-returns c = search needs
-
 put-point-requires : tie.Need-put-point-requires
 unfolding startOf
 put-point-requires c κs =
     let a = c .before .before .before .before .before .before .args in
     let e = start-some (a .n) (a .b) (c .before .before .before .before .before .if1 .left) ∙ ap (λ (n : ℕ). startOf n (a .b .x) (a .b .y)) (c .before .before .before .if2 .taken) in
     omega (arith, ap length e)
-
-same-length : tie.Need-same-length
-same-length c = search needs
 
 returns-2 : tie.Need-returns-2
 unfolding startOf
@@ -37,4 +31,4 @@ returns-3 c =
     rw (start-some (c .before .before .before .args .n) b (c .before .before .if1 .left), in-run (b .run) (c .if2 .left) .start (b .x) (b .y))
 
 pub put-start-spec : {M : Type 1} → statement M
-put-start-spec = tie.close (tie.spec returns put-point-requires same-length returns-2 returns-3)
+put-start-spec = tie.close (tie.spec (λ c. search needs) put-point-requires (λ c. search needs) returns-2 returns-3)

@@ -12,12 +12,6 @@ use borrow.Author.Needs.{needs}
 use Rattle.passes.proofs.answers.put_stitch.Statement.{statement}
 use Rattle.passes.proofs.answers.put_stitch.Tie as tie
 
-put-start-requires : tie.Need-put-start-requires
-put-start-requires c κs = search needs
-
-opens-requires : tie.Need-opens-requires
-opens-requires c κs = search needs
-
 add-put-point : tie.Need-add-put-point
 add-put-point c = omega (arith, may-open (c .before .before .before .before .before .before .args .b .run) .least)
 
@@ -25,9 +19,6 @@ put-point-requires : tie.Need-put-point-requires
 put-point-requires c κs =
     let b = c .before .before .before .before .before .before .args .b in
     omega (arith, c .before .before .before .before .put-start .kept, c .before .before .before .before .before .before .pre .0, point-cells (b .run) (b .x) (b .y), may-open (b .run) .adds 0)
-
-same-length : tie.Need-same-length
-same-length c = search needs
 
 returns : tie.Need-returns
 returns c =
@@ -40,9 +31,4 @@ pub put-stitch-spec : {M : Type 1} → statement M
 put-stitch-spec =
     tie.close
     (tie.spec
-    put-start-requires
-    opens-requires
-    add-put-point
-    put-point-requires
-    same-length
-    returns)
+    (λ c κs. search needs) (λ c κs. search needs) add-put-point put-point-requires (λ c. search needs) returns)

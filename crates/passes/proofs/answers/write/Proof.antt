@@ -11,17 +11,11 @@ use borrow.Author.Needs.{needs}
 use Rattle.passes.proofs.answers.write.Statement.{statement}
 use Rattle.passes.proofs.answers.write.Tie as tie
 
-dx-of-requires : tie.Need-dx-of-requires
-dx-of-requires c κs = search needs
-
 sum-requires : tie.Need-sum-requires
 sum-requires c κs =
     let s = c .before .before .before .before .before in
     let d = c .before .dx-of in
     rw (kept (s .args .b .x) (s .pre .0 .x), ret w32 (d .result) (d .ok), d .ensures) (s .pre .1 .0 .x)
-
-dy-of-requires : tie.Need-dy-of-requires
-dy-of-requires c κs = search needs
 
 sum-requires-2 : tie.Need-sum-requires-2
 sum-requires-2 c κs =
@@ -45,38 +39,14 @@ reached-y c =
     let d = c .before .before .dy-of in
     rw (ret w32 (c .sum2 .result) (c .sum2 .ok), c .sum2 .ensures, kept (s .args .b .y) (s .pre .0 .y), ret w32 (d .result) (d .ok), d .ensures)
 
-enum-told : tie.Need-enum-told
-enum-told c = search needs
-
 put-stitch-requires : tie.Need-put-stitch-requires
 put-stitch-requires c κs = let s = c .before .before .before .before .before .before .before .before .before .before .before .before in (simp (c .before .enum-told .given .1, length-append) at (s .pre .1 .1 .places), s .pre .0)
-
-stitch-requires : tie.Need-stitch-requires
-stitch-requires c κs = search needs
-
-enum-told-2 : tie.Need-enum-told-2
-enum-told-2 c = search needs
 
 put-run-requires : tie.Need-put-run-requires
 put-run-requires c κs = simp (c .before .enum-told2 .given .1) at (c .before .before .before .before .before .before .before .before .before .before .before .before .pre .1 .1 .runs)
 
-jump-requires : tie.Need-jump-requires
-jump-requires c κs = search needs
-
-enum-told-3 : tie.Need-enum-told-3
-enum-told-3 c = search needs
-
 close-requires : tie.Need-close-requires
 close-requires c κs = let s = c .before .before .before .before .before .before .before .before .before .before .before .before .before in (simp (c .before .before .enum-told3 .given .1) at (s .pre .1 .1 .runs), simp (c .before .before .enum-told3 .given .1) at (s .pre .1 .1 .blocks))
-
-color-change-requires : tie.Need-color-change-requires
-color-change-requires c κs = search needs
-
-enum-told-4 : tie.Need-enum-told-4
-enum-told-4 c = search needs
-
-same-length : tie.Need-same-length
-same-length c = search needs
 
 returns : tie.Need-returns
 returns c =
@@ -84,20 +54,11 @@ returns c =
     let b = c .before .before .before .before .before .before in
     (rw (c .stitch .ensures, reached-x b, reached-y b, e), (rw (c .before .before .put-stitch .ensures, reached-x b, reached-y b, e), (rw e, rw e)))
 
-same-length-2 : tie.Need-same-length-2
-same-length-2 c = search needs
-
 returns-2 : tie.Need-returns-2
 returns-2 c =
     let e = c .before .before .before .before .before .enum-told2 .given .1 in
     let b = c .before .before .before .before .before .before .before in
     (rw (c .jump .ensures, reached-x b, reached-y b, e), (rw e, (rw (c .before .before .before .put-run .ensures, e), rw e)))
-
-same-length-3 : tie.Need-same-length-3
-same-length-3 c = search needs
-
-same-length-4 : tie.Need-same-length-4
-same-length-4 c = search needs
 
 returns-3 : tie.Need-returns-3
 returns-3 c =
@@ -114,25 +75,7 @@ pub write-spec : {M : Type 1} → statement M
 write-spec =
     tie.close
     (tie.spec
-    dx-of-requires
-    sum-requires
-    dy-of-requires
-    sum-requires-2
-    enum-told
-    put-stitch-requires
-    stitch-requires
-    enum-told-2
-    put-run-requires
-    jump-requires
-    enum-told-3
-    close-requires
-    color-change-requires
-    enum-told-4
-    same-length
-    returns
-    same-length-2
-    returns-2
-    same-length-3
-    same-length-4
-    returns-3
-    returns-4)
+    (λ c κs. search needs) sum-requires (λ c κs. search needs) sum-requires-2 (λ c. search needs)
+    put-stitch-requires (λ c κs. search needs) (λ c. search needs) put-run-requires (λ c κs. search needs)
+    (λ c. search needs) close-requires (λ c κs. search needs) (λ c. search needs) (λ c. search needs) returns
+    (λ c. search needs) returns-2 (λ c. search needs) (λ c. search needs) returns-3 returns-4)

@@ -111,18 +111,5 @@ pub draw-plain-spec : {M : Type 1} → statement M
 draw-plain-spec =
     tie.close
     (tie.spec
-    Inv-loop
-    μ-loop
-    loop-holds
-    plain-len-requires
-    sub-count
-    same-length
-    returns
-    plain-step-requires
-    sum-requires
-    sum-requires-2
-    put-point-requires
-    add-at
-    add-points
-    loop-less
-    loop-again)
+    Inv-loop μ-loop loop-holds plain-len-requires sub-count same-length returns plain-step-requires sum-requires
+    sum-requires-2 put-point-requires add-at add-points loop-less loop-again)

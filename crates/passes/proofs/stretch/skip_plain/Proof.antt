@@ -48,14 +48,4 @@ loop-again c = rw add-one (again c)
 
 pub skip-plain-spec : {M : Type 1} → statement M
 skip-plain-spec =
-    tie.close
-    (tie.spec
-    Inv-loop
-    μ-loop
-    loop-holds
-    plain-len-requires
-    returns
-    add-at
-    add-count
-    loop-less
-    loop-again)
+    tie.close (tie.spec Inv-loop μ-loop loop-holds plain-len-requires returns add-at add-count loop-less loop-again)

@@ -9,12 +9,6 @@ use borrow.Author.Needs.{needs}
 use Rattle.records.proofs.bytes.less.Statement.{statement}
 use Rattle.records.proofs.bytes.less.Tie as tie
 
-cast-result : tie.Need-cast-result
-cast-result c = search needs
-
-cast-result-2 : tie.Need-cast-result-2
-cast-result-2 c = search needs
-
 sub-result : tie.Need-sub-result
 sub-result c =
     let a = c .args in
@@ -30,4 +24,4 @@ returns c =
     rw (toZ-pos w32 h, toZ-pos w32 k) (toZ-ofZ (small-fits (pos (a .a) -ℤ pos (a .b)) (omega (arith, less-size (a .a) (a .b)))))
 
 pub less-spec : {M : Type 1} → statement M
-less-spec = tie.close (tie.spec cast-result cast-result-2 sub-result returns)
+less-spec = tie.close (tie.spec (λ c. search needs) (λ c. search needs) sub-result returns)

@@ -9,9 +9,6 @@ use borrow.Author.Needs.{needs}
 use Rattle.records.proofs.bytes.minus8.Statement.{statement}
 use Rattle.records.proofs.bytes.minus8.Tie as tie
 
-s8-requires : tie.Need-s8-requires
-s8-requires c κs = search needs
-
 sub-result : tie.Need-sub-result
 sub-result c =
     let b = c .before .args .b in
@@ -26,4 +23,4 @@ returns c =
     (toZ-ofZ (small-fits (negℤ z) (omega (arith, abs-neg z, signed-size 7 b))))
 
 pub minus8-spec : {M : Type 1} → statement M
-minus8-spec = tie.close (tie.spec s8-requires sub-result returns)
+minus8-spec = tie.close (tie.spec (λ c κs. search needs) sub-result returns)

@@ -10,12 +10,6 @@ use borrow.Author.Needs.{needs}
 use Rattle.records.proofs.bytes.signed12.Statement.{statement}
 use Rattle.records.proofs.bytes.signed12.Tie as tie
 
-add-result : tie.Need-add-result
-add-result c = search needs
-
-cast-result : tie.Need-cast-result
-cast-result c = search needs
-
 sub-result : tie.Need-sub-result
 sub-result c =
     let b = c .args .v in
@@ -29,4 +23,4 @@ returns c =
     rw (toZ-pos w32 h, shifted 11 b (omega arith)) (toZ-ofZ (small-fits (signed 11 b) (omega (arith, signed-size 11 b))))
 
 pub signed12-spec : {M : Type 1} → statement M
-signed12-spec = tie.close (tie.spec add-result cast-result sub-result returns)
+signed12-spec = tie.close (tie.spec (λ c. search needs) (λ c. search needs) sub-result returns)

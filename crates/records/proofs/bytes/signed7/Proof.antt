@@ -10,12 +10,6 @@ use borrow.Author.Needs.{needs}
 use Rattle.records.proofs.bytes.signed7.Statement.{statement}
 use Rattle.records.proofs.bytes.signed7.Tie as tie
 
-add-result : tie.Need-add-result
-add-result c = search needs
-
-cast-result : tie.Need-cast-result
-cast-result c = search needs
-
 sub-result : tie.Need-sub-result
 sub-result c =
     let b = c .args .b in
@@ -29,4 +23,4 @@ returns c =
     rw (toZ-pos w32 h, shifted 6 b (omega arith)) (toZ-ofZ (small-fits (signed 6 b) (omega (arith, signed-size 6 b))))
 
 pub signed7-spec : {M : Type 1} → statement M
-signed7-spec = tie.close (tie.spec add-result cast-result sub-result returns)
+signed7-spec = tie.close (tie.spec (λ c. search needs) (λ c. search needs) sub-result returns)

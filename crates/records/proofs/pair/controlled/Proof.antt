@@ -15,9 +15,6 @@ unfolding control
 returns-2 c =
     simp (ne-eqb _ _ (c .before .if1 .left), eq-eqb _ _ (c .if2 .taken), toZ-ofZ (c .before .before .fits .dx), toZ-ofZ (c .before .before .fits .dy))
 
-second-requires : tie.Need-second-requires
-second-requires c κs = search needs
-
 returns-3 : tie.Need-returns-3
 unfolding control
 returns-3 c =
@@ -54,4 +51,4 @@ returns-5 c =
 
 pub controlled-spec : {M : Type 1} → statement M
 controlled-spec =
-    tie.close (tie.spec returns returns-2 second-requires returns-3 returns-4 returns-5)
+    tie.close (tie.spec returns returns-2 (λ c κs. search needs) returns-3 returns-4 returns-5)

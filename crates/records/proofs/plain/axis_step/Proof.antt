@@ -6,27 +6,6 @@ use borrow.Author.Needs.{needs}
 use Rattle.records.proofs.plain.axis_step.Statement.{statement}
 use Rattle.records.proofs.plain.axis_step.Tie as tie
 
-signed7-requires : tie.Need-signed7-requires
-signed7-requires c κs = search needs
-
-mul-signed12 : tie.Need-mul-signed12
-mul-signed12 c = search needs
-
-add-signed12 : tie.Need-add-signed12
-add-signed12 c = search needs
-
-signed12-requires : tie.Need-signed12-requires
-signed12-requires c κs = search needs
-
-cast-result : tie.Need-cast-result
-cast-result c = search needs
-
-mul-result : tie.Need-mul-result
-mul-result c = search needs
-
-array-copy-out-result : tie.Need-array-copy-out-result
-array-copy-out-result c = search needs
-
 returns : tie.Need-returns
 returns c =
     let a = c .before .before .before .args in
@@ -38,11 +17,5 @@ pub axis-step-spec : {M : Type 1} → statement M
 axis-step-spec =
     tie.close
     (tie.spec
-    signed7-requires
-    mul-signed12
-    add-signed12
-    signed12-requires
-    cast-result
-    mul-result
-    array-copy-out-result
-    returns)
+    (λ c κs. search needs) (λ c. search needs) (λ c. search needs) (λ c κs. search needs) (λ c. search needs)
+    (λ c. search needs) (λ c. search needs) returns)

@@ -10,9 +10,6 @@ use borrow.Author.Needs.{needs}
 use Rattle.records.proofs.plain.both_short.Statement.{statement}
 use Rattle.records.proofs.plain.both_short.Tie as tie
 
-add-result : tie.Need-add-result
-add-result c = search needs
-
 returns : tie.Need-returns
 returns c =
     let a = c .args in
@@ -23,4 +20,4 @@ returns c =
     (λ e. ne-eqb (a .a / 128 + a .b / 128) 0 (λ z. clash (t && u) (and-true t u (lt-ltb (a .a) 128 (omega arith)) (lt-ltb (a .b) 128 (omega arith))) e) ∙ sym e)
 
 pub both-short-spec : {M : Type 1} → statement M
-both-short-spec = tie.close (tie.spec add-result returns)
+both-short-spec = tie.close (tie.spec (λ c. search needs) returns)

@@ -6,17 +6,8 @@ use borrow.Author.Needs.{needs}
 use Rattle.records.proofs.plain.dst_len.Statement.{statement}
 use Rattle.records.proofs.plain.dst_len.Tie as tie
 
-sub-if1 : tie.Need-sub-if1
-sub-if1 c = search needs
-
 returns : tie.Need-returns
 returns c = let a = c .before .args in rw (dst-len-is (now (a .file)) (a .at), lt-leb _ _ (c .if1 .taken))
-
-add-if2 : tie.Need-add-if2
-add-if2 c = search needs
-
-shared-slice-read-if2 : tie.Need-shared-slice-read-if2
-shared-slice-read-if2 c = search needs
 
 returns-2 : tie.Need-returns-2
 returns-2 c =
@@ -30,4 +21,4 @@ returns-3 c =
 
 pub dst-len-spec : {M : Type 1} → statement M
 dst-len-spec =
-    tie.close (tie.spec sub-if1 returns add-if2 shared-slice-read-if2 returns-2 returns-3)
+    tie.close (tie.spec (λ c. search needs) returns (λ c. search needs) (λ c. search needs) returns-2 returns-3)

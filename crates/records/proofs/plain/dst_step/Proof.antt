@@ -24,12 +24,6 @@ add-c c = let a = c .before .before .before in let h = dst-here (now (a .args .f
 shared-slice-read-c : tie.Need-shared-slice-read-c
 shared-slice-read-c c = let a = c .before .before .before .before in let h = dst-here (now (a .args .file)) (a .args .at) (a .pre) in omega arith
 
-dst-dx-requires : tie.Need-dst-dx-requires
-dst-dx-requires c κs = search needs
-
-dst-dy-requires : tie.Need-dst-dy-requires
-dst-dy-requires c κs = search needs
-
 returns : tie.Need-returns
 returns c =
     let a = c .before .before .before .before .before .before in
@@ -41,11 +35,5 @@ pub dst-step-spec : {M : Type 1} → statement M
 dst-step-spec =
     tie.close
     (tie.spec
-    shared-slice-read-a
-    add-b
-    shared-slice-read-b
-    add-c
-    shared-slice-read-c
-    dst-dx-requires
-    dst-dy-requires
-    returns)
+    shared-slice-read-a add-b shared-slice-read-b add-c shared-slice-read-c (λ c κs. search needs)
+    (λ c κs. search needs) returns)

@@ -6,14 +6,8 @@ use borrow.Author.Needs.{needs}
 use Rattle.records.proofs.plain.pair_len.Statement.{statement}
 use Rattle.records.proofs.plain.pair_len.Tie as tie
 
-sub-if1 : tie.Need-sub-if1
-sub-if1 c = search needs
-
 returns : tie.Need-returns
 returns c = let a = c .before .args in rw (pair-len-is (now (a .file)) (a .at), lt-leb _ _ (c .if1 .taken))
-
-shared-slice-read-if2 : tie.Need-shared-slice-read-if2
-shared-slice-read-if2 c = search needs
 
 returns-2 : tie.Need-returns-2
 returns-2 c =
@@ -26,4 +20,4 @@ returns-3 c =
     rw (pair-len-is (now (a .file)) (a .at), le-leb _ _ (c .before .before .if1 .left), ne-eqb _ _ (c .if2 .left))
 
 pub pair-len-spec : {M : Type 1} → statement M
-pair-len-spec = tie.close (tie.spec sub-if1 returns shared-slice-read-if2 returns-2 returns-3)
+pair-len-spec = tie.close (tie.spec (λ c. search needs) returns (λ c. search needs) returns-2 returns-3)

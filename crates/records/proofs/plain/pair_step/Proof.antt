@@ -12,17 +12,11 @@ use Rattle.records.proofs.plain.pair_step.Tie as tie
 shared-slice-read-s8 : tie.Need-shared-slice-read-s8
 shared-slice-read-s8 c = let a = c .before .before in let h = pair-here (now (a .args .file)) (a .args .at) (a .pre) in omega arith
 
-s8-requires : tie.Need-s8-requires
-s8-requires c κs = search needs
-
 add-minus8 : tie.Need-add-minus8
 add-minus8 c = let a = c .before .before .before in let h = pair-here (now (a .args .file)) (a .args .at) (a .pre) in omega arith
 
 shared-slice-read-minus8 : tie.Need-shared-slice-read-minus8
 shared-slice-read-minus8 c = let a = c .before .before .before .before in let h = pair-here (now (a .args .file)) (a .args .at) (a .pre) in omega arith
-
-minus8-requires : tie.Need-minus8-requires
-minus8-requires c κs = search needs
 
 returns : tie.Need-returns
 returns c =
@@ -36,9 +30,4 @@ pub pair-step-spec : {M : Type 1} → statement M
 pair-step-spec =
     tie.close
     (tie.spec
-    shared-slice-read-s8
-    s8-requires
-    add-minus8
-    shared-slice-read-minus8
-    minus8-requires
-    returns)
+    shared-slice-read-s8 (λ c κs. search needs) add-minus8 shared-slice-read-minus8 (λ c κs. search needs) returns)

@@ -8,32 +8,14 @@ use borrow.Author.Needs.{needs}
 use Rattle.records.proofs.plain.pec_len.Statement.{statement}
 use Rattle.records.proofs.plain.pec_len.Tie as tie
 
-sub-if1 : tie.Need-sub-if1
-sub-if1 c = search needs
-
 returns : tie.Need-returns
 returns c = let a = c .before .before .args in rw (pec-len-is (now (a .file)) (a .at), lt-leb _ _ (c .if1 .taken))
-
-shared-slice-read-a : tie.Need-shared-slice-read-a
-shared-slice-read-a c = search needs
-
-add-both-short : tie.Need-add-both-short
-add-both-short c = search needs
-
-shared-slice-read-both-short : tie.Need-shared-slice-read-both-short
-shared-slice-read-both-short c = search needs
-
-both-short-requires : tie.Need-both-short-requires
-both-short-requires c κs = search needs
 
 returns-2 : tie.Need-returns-2
 returns-2 c =
     let a = c .before .before .before .before .before .before .args in
     let h = short-here (now (a .file)) (a .at) (c .before .both-short .ensures) (c .if2 .taken) in
     sym (short-len (now (a .file)) (a .at) (c .before .before .before .before .if1 .left) (h .0) (h .1))
-
-add-second : tie.Need-add-second
-add-second c = search needs
 
 cast-second : tie.Need-cast-second
 cast-second c = let a = c .before .before .before .before .before .before .args in omega (arith, c .before .before .shared-slice-known3 .given (a .at))
@@ -44,9 +26,6 @@ add-second-2 c = let a = c .before .before .before .before .before .before .args
 shared-slice-read-wide-len : tie.Need-shared-slice-read-wide-len
 shared-slice-read-wide-len c = let a = c .before .before .before .before .before .before .before .args in omega (arith, c .shared-slice-known4 .given (a .at))
 
-wide-len-requires : tie.Need-wide-len-requires
-wide-len-requires c κs = search needs
-
 returns-3 : tie.Need-returns-3
 returns-3 c =
     let a = c .before .before .before .before .before .before .before .before .args in
@@ -56,16 +35,6 @@ pub pec-len-spec : {M : Type 1} → statement M
 pec-len-spec =
     tie.close
     (tie.spec
-    sub-if1
-    returns
-    shared-slice-read-a
-    add-both-short
-    shared-slice-read-both-short
-    both-short-requires
-    returns-2
-    add-second
-    cast-second
-    add-second-2
-    shared-slice-read-wide-len
-    wide-len-requires
+    (λ c. search needs) returns (λ c. search needs) (λ c. search needs) (λ c. search needs) (λ c κs. search needs)
+    returns-2 (λ c. search needs) cast-second add-second-2 shared-slice-read-wide-len (λ c κs. search needs)
     returns-3)

@@ -18,9 +18,6 @@ add-b c = let a = c .before .before in let h = pec-here (now (a .args .file)) (a
 shared-slice-read-b : tie.Need-shared-slice-read-b
 shared-slice-read-b c = let a = c .before .before .before in let h = pec-here (now (a .args .file)) (a .args .at) (a .pre) in omega arith
 
-both-short-requires : tie.Need-both-short-requires
-both-short-requires c κs = search needs
-
 signed7-requires : tie.Need-signed7-requires
 signed7-requires c κs = let a = c .before .before .before .before .before .args in short-here (now (a .file)) (a .at) (c .before .both-short .ensures) (c .if1 .taken) .0
 
@@ -70,19 +67,6 @@ pub pec-step-spec : {M : Type 1} → statement M
 pec-step-spec =
     tie.close
     (tie.spec
-    shared-slice-read-a
-    add-b
-    shared-slice-read-b
-    both-short-requires
-    signed7-requires
-    signed7-requires-2
-    returns
-    add-second
-    cast-second
-    add-second-2
-    axis-step-requires
-    shared-slice-read-axis-step
-    add-axis-step
-    shared-slice-read-axis-step-2
-    axis-step-requires-2
-    returns-2)
+    shared-slice-read-a add-b shared-slice-read-b (λ c κs. search needs) signed7-requires signed7-requires-2 returns
+    add-second cast-second add-second-2 axis-step-requires shared-slice-read-axis-step add-axis-step
+    shared-slice-read-axis-step-2 axis-step-requires-2 returns-2)

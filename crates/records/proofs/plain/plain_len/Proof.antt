@@ -9,18 +9,6 @@ use borrow.Author.Needs.{needs}
 use Rattle.records.proofs.plain.plain_len.Statement.{statement}
 use Rattle.records.proofs.plain.plain_len.Tie as tie
 
-pec-len-requires : tie.Need-pec-len-requires
-pec-len-requires c κs = search needs
-
-enum-told : tie.Need-enum-told
-enum-told c = search needs
-
-dst-len-requires : tie.Need-dst-len-requires
-dst-len-requires c κs = search needs
-
-pair-len-requires : tie.Need-pair-len-requires
-pair-len-requires c κs = search needs
-
 returns : tie.Need-returns
 unfolding plainLen
 returns c =
@@ -41,10 +29,5 @@ pub plain-len-spec : {M : Type 1} → statement M
 plain-len-spec =
     tie.close
     (tie.spec
-    pec-len-requires
-    enum-told
-    dst-len-requires
-    pair-len-requires
-    returns
-    returns-2
+    (λ c κs. search needs) (λ c. search needs) (λ c κs. search needs) (λ c κs. search needs) returns returns-2
     returns-3)

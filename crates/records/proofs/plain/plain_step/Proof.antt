@@ -20,9 +20,6 @@ pec-step-requires c κs =
     let s = drop (a .at) (now (a .file)) in
     pes-pec (λ (f : Format). 0 < plainLen f s → 0 < pecLen s) (λ h. h) (λ h. h) (a .f) (c .match .keys1) (c .before .before .pre)
 
-enum-told : tie.Need-enum-told
-enum-told c = search needs
-
 dst-step-requires : tie.Need-dst-step-requires
 unfolding plainLen
 dst-step-requires c κs = rw (c .enum-told .given .1) at (c .before .before .before .pre)
@@ -58,10 +55,4 @@ pub plain-step-spec : {M : Type 1} → statement M
 plain-step-spec =
     tie.close
     (tie.spec
-    pec-step-requires
-    enum-told
-    dst-step-requires
-    pair-step-requires
-    returns
-    returns-2
-    returns-3)
+    pec-step-requires (λ c. search needs) dst-step-requires pair-step-requires returns returns-2 returns-3)

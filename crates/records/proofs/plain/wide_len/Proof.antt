@@ -14,18 +14,6 @@ returns-2 : tie.Need-returns-2
 unfolding wideLen
 returns-2 c = rw (and-no-right _ _ (le-ltb _ _ (c .if2 .taken)))
 
-cast-result : tie.Need-cast-result
-cast-result c = search needs
-
-add-result : tie.Need-add-result
-add-result c = search needs
-
-cast-result-2 : tie.Need-cast-result-2
-cast-result-2 c = search needs
-
-add-result-2 : tie.Need-add-result-2
-add-result-2 c = search needs
-
 returns-3 : tie.Need-returns-3
 unfolding wideLen
 returns-3 c = rw (lt-ltb _ _ (c .before .if1 .left), lt-ltb _ _ (c .if2 .left))
@@ -33,4 +21,4 @@ returns-3 c = rw (lt-ltb _ _ (c .before .if1 .left), lt-ltb _ _ (c .if2 .left))
 pub wide-len-spec : {M : Type 1} → statement M
 wide-len-spec =
     tie.close
-    (tie.spec returns returns-2 cast-result add-result cast-result-2 add-result-2 returns-3)
+    (tie.spec returns returns-2 (λ c. search needs) (λ c. search needs) (λ c. search needs) (λ c. search needs) returns-3)

@@ -11,19 +11,10 @@ use borrow.Author.Needs.{needs}
 use Rattle.records.proofs.steps.step_at.Statement.{statement}
 use Rattle.records.proofs.steps.step_at.Tie as tie
 
-no-coord-requires : tie.Need-no-coord-requires
-no-coord-requires c κs = search needs
-
 returns : tie.Need-returns
 returns c =
     let a = c .before .before .before .args in
     (rw (eq-eqb _ _ (c .no-coord .ensures .0)) (sym (axis-end (now (a .file)) (a .at) (omega arith))), (omega arith, omega arith))
-
-shared-slice-read-a : tie.Need-shared-slice-read-a
-shared-slice-read-a c = search needs
-
-signed7-requires : tie.Need-signed7-requires
-signed7-requires c κs = search needs
 
 returns-2 : tie.Need-returns-2
 returns-2 c =
@@ -32,24 +23,12 @@ returns-2 c =
       (omega arith, omega arith),
     )
 
-sub-if3 : tie.Need-sub-if3
-sub-if3 c = search needs
-
-no-coord-requires-2 : tie.Need-no-coord-requires-2
-no-coord-requires-2 c κs = search needs
-
 returns-3 : tie.Need-returns-3
 returns-3 c =
     let a = c .before .before .before .before .before .before .args in (
       rw (eq-eqb _ _ (c .no-coord2 .ensures .0)) (sym (axis-cut (now (a .file)) (a .at) (omega arith) (c .before .before .if2 .left) (omega arith))),
       (omega arith, omega arith),
     )
-
-add-b : tie.Need-add-b
-add-b c = search needs
-
-shared-slice-read-b : tie.Need-shared-slice-read-b
-shared-slice-read-b c = search needs
 
 cast-signed12 : tie.Need-cast-signed12
 cast-signed12 c =
@@ -58,9 +37,6 @@ cast-signed12 c =
       c .shared-slice-known3 .given (c .before .before .before .before .before .before .args .at),
       c .shared-slice-known3 .given (c .before .before .before .before .before .before .args .at + 1),
     )
-
-mul-signed12 : tie.Need-mul-signed12
-mul-signed12 c = search needs
 
 cast-signed12-2 : tie.Need-cast-signed12-2
 cast-signed12-2 c =
@@ -97,19 +73,6 @@ pub step-at-spec : {M : Type 1} → statement M
 step-at-spec =
     tie.close
     (tie.spec
-    no-coord-requires
-    returns
-    shared-slice-read-a
-    signed7-requires
-    returns-2
-    sub-if3
-    no-coord-requires-2
-    returns-3
-    add-b
-    shared-slice-read-b
-    cast-signed12
-    mul-signed12
-    cast-signed12-2
-    add-signed12
-    signed12-requires
-    returns-4)
+    (λ c κs. search needs) returns (λ c. search needs) (λ c κs. search needs) returns-2 (λ c. search needs)
+    (λ c κs. search needs) returns-3 (λ c. search needs) (λ c. search needs) cast-signed12 (λ c. search needs)
+    cast-signed12-2 add-signed12 signed12-requires returns-4)

@@ -12,35 +12,8 @@ use Rattle.records.proofs.triples.dst_record.Tie as tie
 returns : tie.Need-returns
 returns c = let a = c .before .before .args in sym (dst-short (now (a .file)) (a .at) (omega arith))
 
-sub-if2 : tie.Need-sub-if2
-sub-if2 c = search needs
-
 returns-2 : tie.Need-returns-2
 returns-2 c = let a = c .before .before .before .args in sym (dst-short (now (a .file)) (a .at) (omega arith))
-
-shared-slice-read-a : tie.Need-shared-slice-read-a
-shared-slice-read-a c = search needs
-
-add-b : tie.Need-add-b
-add-b c = search needs
-
-shared-slice-read-b : tie.Need-shared-slice-read-b
-shared-slice-read-b c = search needs
-
-add-c : tie.Need-add-c
-add-c c = search needs
-
-shared-slice-read-c : tie.Need-shared-slice-read-c
-shared-slice-read-c c = search needs
-
-dst-dx-requires : tie.Need-dst-dx-requires
-dst-dx-requires c κs = search needs
-
-dst-dy-requires : tie.Need-dst-dy-requires
-dst-dy-requires c κs = search needs
-
-kind-requires : tie.Need-kind-requires
-kind-requires c κs = search needs
 
 returns-3 : tie.Need-returns-3
 returns-3 c =
@@ -58,15 +31,6 @@ pub dst-record-spec : {M : Type 1} → statement M
 dst-record-spec =
     tie.close
     (tie.spec
-    returns
-    sub-if2
-    returns-2
-    shared-slice-read-a
-    add-b
-    shared-slice-read-b
-    add-c
-    shared-slice-read-c
-    dst-dx-requires
-    dst-dy-requires
-    kind-requires
+    returns (λ c. search needs) returns-2 (λ c. search needs) (λ c. search needs) (λ c. search needs)
+    (λ c. search needs) (λ c. search needs) (λ c κs. search needs) (λ c κs. search needs) (λ c κs. search needs)
     returns-3)

@@ -15,9 +15,6 @@ entries = 10 ∷ 11 ∷ 9 ∷ 10 ∷ 19 ∷ 20 ∷ 18 ∷ 19 ∷ 1 ∷ 2 ∷ 0 �
 right : ℕ → ℕ → Bool
 right n x = eqb (x + (9 * (n / 8 % 2) + n / 2 % 2)) (10 + (9 * (n / 4 % 2) + n % 2))
 
-array-read-result : tie.Need-array-read-result
-array-read-result c = search needs
-
 returns : tie.Need-returns
 unfolding entries right
 returns c =
@@ -25,4 +22,4 @@ returns c =
     eqb→eq (getD entries n 0 + (9 * (n / 8 % 2) + n / 2 % 2)) (10 + (9 * (n / 4 % 2) + n % 2)) (at right entries 0 tt n (search needs))
 
 pub x-of-spec : {M : Type 1} → statement M
-x-of-spec = tie.close (tie.spec array-read-result returns)
+x-of-spec = tie.close (tie.spec (λ c. search needs) returns)
