@@ -5,8 +5,8 @@
  * Slices and numbers that are written must not overlap any other. A slice of length 0 still needs a pointer that is not null; the data() of
  * an empty C++ vector may be null, so pass `v.empty() ? &spare : v.data()` with some `spare` of the element type.
  *
- * Stack: stitch_box_write_cmds takes under 1 MiB, stitch_box_write under 512 KiB (PES and PEC, for lists of 2,048 commands or more; other
- * formats under 8 KiB), the others under 8 KiB.
+ * Stack: stitch_box_write_cmds takes under 1 MiB; stitch_box_write under 512 KiB in PES and PEC, however short the list, and under 8 KiB in
+ * the other formats; the other functions under 8 KiB.
  *
  * Units: places are whole tenths of a millimetre; x points right and y points down. An extension is "pes", "pec", "dst", "exp" or "jef", in
  * letters of either case, without a dot and without a final zero. */
