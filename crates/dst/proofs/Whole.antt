@@ -9,8 +9,8 @@ use Rattle.rules.specs.Dst.{dstText, dstFile, recordCount}
 use Rattle.rules.specs.Lists.{written, opOf, isChange, minX, minY, maxX, maxY, lastX, lastY}
 use Rattle.rules.specs.Vocabulary.{joined, padded, count}
 use Rattle.rules.specs.declared.Cmd.{Cmd}
-use Rattle.encode_cmd.specs.declared.Stream.the-variants.{Dst}
-use Rattle.encode_cmd.specs.Cmds.{cmdOf}
+use Rattle.stream_cmd.specs.declared.Stream.the-variants.{Dst}
+use Rattle.stream_cmd.specs.Cmds.{cmdOf}
 use Rattle.dst.proofs.Lines.{length-line, number-line, signed-line}
 use Rattle.dst.proofs.Text.{length-label}
 

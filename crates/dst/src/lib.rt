@@ -1,7 +1,5 @@
 // DST: the header, and whole files.
 // A port of src/formats/dst.rs of zigzag, changed.
-use checks::check_list;
-use checks::color_changes;
 use emit::put;
 use emit::put_name;
 use emit::put_right;
@@ -9,9 +7,6 @@ use emit::put_times;
 use emit::put2;
 use emit::put3;
 use emit::size;
-use encode::put_stream;
-use encode::stream_len;
-use encode_cmd::Stream;
 use formats::list_len;
 use formats::op_of;
 use formats::stream_bounds;
@@ -22,6 +17,11 @@ use rules::Op;
 use rules::Refusal;
 use rules::Verdict;
 use rules::WriteAnswer;
+use stream::put_stream;
+use stream::stream_len;
+use stream_cmd::Stream;
+use write_refusals::check_list;
+use write_refusals::color_changes;
 ghost use mathlib.Core.Path.{_≡_};
 ghost use mathlib.Core.Bool.{false};
 ghost use Prim.Native.Nat.{_+_, _-_, _≤_};
@@ -34,9 +34,10 @@ ghost use Rattle.rules.specs.Lists.{commands, opOf, isTrim, dstName};
 ghost use Rattle.rules.specs.Dst.{line, signedRight, dstText, dstFile};
 ghost use Rattle.rules.specs.Files.{writeVerdict, writeAnswer, filled, fileOf};
 ghost use Rattle.rules.specs.Refusals.{stepTooLong};
+ghost use Rattle.rules.specs.Promises.{was, left};
 ghost use Rattle.rules.specs.declared.Extension.the-variants.{Of};
 ghost use Rattle.rules.specs.declared.Format.the-variants.{Dst};
-ghost use Rattle.laws.specs.Buffers.{Put};
+ghost use Rattle.laws.specs.Buffers.{Puts};
 ghost use Rattle.emit.specs.Answered.{Answered};
 ghost use Rattle.dst.specs.Lines.{trimming, countsText, boundsText, lastText, endText};
 
@@ -52,7 +53,7 @@ fn sign_of(z: i64) -> u8
 // A line of two characters and a number in n columns.
 fn put_number(a: u8, b: u8, n: usize, v: u32, out: &mut [u8], at: usize) -> usize
     requires { ⌜ (n ≤ 10) × (at + (n + 4) ≤ length (now out)) ⌝ }
-    ensures { λ r. ⌜ Put (now (out .entry)) (now (out .exit)) at r (line a b (right n v)) ⌝ }
+    ensures { λ r. ⌜ Puts out at r (line a b (right n v)) ⌝ }
 {
     let text = put3(out, at, a, b, 0x3A);
     let end = put_right(out, text, n, v);
@@ -63,7 +64,7 @@ fn put_number(a: u8, b: u8, n: usize, v: u32, out: &mut [u8], at: usize) -> usiz
 fn put_signed(a: u8, b: u8, z: i64, out: &mut [u8], at: usize) -> usize
     requires { ⌜ natAbs z ≤ 4294967295 ⌝ }
     requires { ⌜ at + 10 ≤ length (now out) ⌝ }
-    ensures { λ r. ⌜ Put (now (out .entry)) (now (out .exit)) at r (line a b (signedRight z)) ⌝ }
+    ensures { λ r. ⌜ Puts out at r (line a b (signedRight z)) ⌝ }
 {
     let sign = put3(out, at, a, b, 0x3A);
     let text = put(out, sign, sign_of(z));
@@ -74,7 +75,7 @@ fn put_signed(a: u8, b: u8, z: i64, out: &mut [u8], at: usize) -> usize
 // `LA:`, the label.
 fn put_label(name: &[u8], out: &mut [u8], at: usize) -> usize
     requires { ⌜ at + 20 ≤ length (now out) ⌝ }
-    ensures { λ r. ⌜ Put (now (out .entry)) (now (out .exit)) at r (line 0x4C 0x41 (padded 16 (dstName (now (name .entry))))) ⌝ }
+    ensures { λ r. ⌜ Puts out at r (line 0x4C 0x41 (padded 16 (dstName (was name)))) ⌝ }
 {
     let text = put3(out, at, 0x4C, 0x41, 0x3A);
     let end = put_name(name, 0x20, 0x7F, 16, out, text);
@@ -84,7 +85,7 @@ fn put_label(name: &[u8], out: &mut [u8], at: usize) -> usize
 // `ST:` and `CO:`, records and colour changes.
 fn put_counts(records: u32, colors: u32, out: &mut [u8], at: usize) -> usize
     requires { ⌜ at + 18 ≤ length (now out) ⌝ }
-    ensures { λ r. ⌜ Put (now (out .entry)) (now (out .exit)) at r (countsText records colors) ⌝ }
+    ensures { λ r. ⌜ Puts out at r (countsText records colors) ⌝ }
 {
     let next = put_number(0x53, 0x54, 7, records, out, at);
     put_number(0x43, 0x4F, 3, colors, out, next)
@@ -93,7 +94,7 @@ fn put_counts(records: u32, colors: u32, out: &mut [u8], at: usize) -> usize
 // `+X:`, `-X:`, `+Y:`, `-Y:`, the bounds.
 fn put_bounds(b: Bounds, out: &mut [u8], at: usize) -> usize
     requires { ⌜ at + 36 ≤ length (now out) ⌝ }
-    ensures { λ r. ⌜ Put (now (out .entry)) (now (out .exit)) at r (boundsText (b .max .x) (b .min .x) (b .max .y) (b .min .y)) ⌝ }
+    ensures { λ r. ⌜ Puts out at r (boundsText (b .max .x) (b .min .x) (b .max .y) (b .min .y)) ⌝ }
 {
     let second = put_number(0x2B, 0x58, 5, size(b.max.x as i64), out, at);
     let third = put_number(0x2D, 0x58, 5, size(b.min.x as i64), out, second);
@@ -104,7 +105,7 @@ fn put_bounds(b: Bounds, out: &mut [u8], at: usize) -> usize
 // `AX:`, `AY:`, the last place, and `MX:`, `MY:`, both 0.
 fn put_last(x: i32, y: i32, out: &mut [u8], at: usize) -> usize
     requires { ⌜ at + 40 ≤ length (now out) ⌝ }
-    ensures { λ r. ⌜ Put (now (out .entry)) (now (out .exit)) at r (lastText x y) ⌝ }
+    ensures { λ r. ⌜ Puts out at r (lastText x y) ⌝ }
 {
     let second = put_signed(0x41, 0x58, x as i64, out, at);
     let third = put_signed(0x41, 0x59, 0 - (y as i64), out, second);
@@ -115,7 +116,7 @@ fn put_last(x: i32, y: i32, out: &mut [u8], at: usize) -> usize
 // `PD:`, and the end of the text.
 fn put_end(out: &mut [u8], at: usize) -> usize
     requires { ⌜ at + 11 ≤ length (now out) ⌝ }
-    ensures { λ r. ⌜ Put (now (out .entry)) (now (out .exit)) at r endText ⌝ }
+    ensures { λ r. ⌜ Puts out at r endText ⌝ }
 {
     let text = put3(out, at, 0x50, 0x44, 0x3A);
     let end = put_times(out, text, 0x2A, 6);
@@ -134,7 +135,7 @@ fn is_trim(kind: u8) -> bool
 
 // How many commands trim.
 fn trims(xs: &[i32], ys: &[i32], kinds: &[u8]) -> usize
-    ensures { λ r. ⌜ (r ≡ count trimming (commands (now (xs .entry)) (now (ys .entry)) (now (kinds .entry)))) × (r ≤ length (now (kinds .entry))) ⌝ }
+    ensures { λ r. ⌜ (r ≡ count trimming (commands (was xs) (was ys) (was kinds))) × (r ≤ length (was kinds)) ⌝ }
 {
     let n = list_len(xs, ys, kinds);
     let mut found = 0;
@@ -151,7 +152,7 @@ fn trims(xs: &[i32], ys: &[i32], kinds: &[u8]) -> usize
 // The last of n places on one axis; 0 where there is none.
 fn last(zs: &[i32], n: usize) -> i32
     requires { ⌜ n ≤ length (now zs) ⌝ }
-    ensures { λ r. ⌜ r ≡ pick (eqb n 0) (pos 0) (getD (now (zs .entry)) (n - 1) (pos 0)) ⌝ }
+    ensures { λ r. ⌜ r ≡ pick (eqb n 0) (pos 0) (getD (was zs) (n - 1) (pos 0)) ⌝ }
 {
     if n == 0 {
         return 0;
@@ -162,7 +163,7 @@ fn last(zs: &[i32], n: usize) -> i32
 // The 125 bytes of text.
 fn put_text_of(name: &[u8], xs: &[i32], ys: &[i32], kinds: &[u8], out: &mut [u8]) -> usize
     requires { ⌜ (length (now kinds) ≤ 65535) × (125 ≤ length (now out)) ⌝ }
-    ensures { λ r. ⌜ Put (now (out .entry)) (now (out .exit)) 0 r (dstText (now (name .entry)) (commands (now (xs .entry)) (now (ys .entry)) (now (kinds .entry)))) ⌝ }
+    ensures { λ r. ⌜ Puts out 0 r (dstText (was name) (commands (was xs) (was ys) (was kinds))) ⌝ }
 {
     let n = list_len(xs, ys, kinds);
     let records = n + 2 * trims(xs, ys, kinds);
@@ -178,7 +179,7 @@ fn put_text_of(name: &[u8], xs: &[i32], ys: &[i32], kinds: &[u8], out: &mut [u8]
 fn put_file(name: &[u8], xs: &[i32], ys: &[i32], kinds: &[u8], out: &mut [u8]) -> usize
     requires { ⌜ (length (now kinds) ≤ 65535) × (stepTooLong Dst (commands (now xs) (now ys) (now kinds)) ≡ false) ⌝ }
     requires { ⌜ length (dstFile (now name) (commands (now xs) (now ys) (now kinds))) ≤ length (now out) ⌝ }
-    ensures { λ r. ⌜ Put (now (out .entry)) (now (out .exit)) 0 r (dstFile (now (name .entry)) (commands (now (xs .entry)) (now (ys .entry)) (now (kinds .entry)))) ⌝ }
+    ensures { λ r. ⌜ Puts out 0 r (dstFile (was name) (commands (was xs) (was ys) (was kinds))) ⌝ }
 {
     let blanks = put_text_of(name, xs, ys, kinds, out);
     let records = put_times(out, blanks, 0x20, 387);
@@ -188,7 +189,7 @@ fn put_file(name: &[u8], xs: &[i32], ys: &[i32], kinds: &[u8], out: &mut [u8]) -
 // The file, or refusal 11.
 fn write_accepted(name: &[u8], xs: &[i32], ys: &[i32], kinds: &[u8], out: &mut [u8]) -> WriteAnswer
     requires { ⌜ (length (now kinds) ≤ 65535) × (stepTooLong Dst (commands (now xs) (now ys) (now kinds)) ≡ false) ⌝ }
-    ensures { λ r. ⌜ Answered (dstFile (now (name .entry)) (commands (now (xs .entry)) (now (ys .entry)) (now (kinds .entry)))) (now (out .entry)) (now (out .exit)) r ⌝ }
+    ensures { λ r. ⌜ Answered (dstFile (was name) (commands (was xs) (was ys) (was kinds))) (was out) (left out) r ⌝ }
 {
     let n = DST_HEADER + stream_len(Stream::Dst, xs, ys, kinds);
     if out.len() < n {
@@ -206,8 +207,8 @@ pub fn dst_from_stream(
     threads: &[u8],
     out: &mut [u8],
 ) -> WriteAnswer
-    ensures { λ r. ⌜ r ≡ writeAnswer (writeVerdict (Of Dst) (now (name .entry)) (now (xs .entry)) (now (ys .entry)) (now (kinds .entry)) (now (threads .entry)) (length (now (out .entry)))) (length (fileOf Dst (now (name .entry)) (commands (now (xs .entry)) (now (ys .entry)) (now (kinds .entry))) (now (threads .entry)))) ⌝ }
-    ensures { λ _. ⌜ now (out .exit) ≡ filled (writeVerdict (Of Dst) (now (name .entry)) (now (xs .entry)) (now (ys .entry)) (now (kinds .entry)) (now (threads .entry)) (length (now (out .entry)))) (fileOf Dst (now (name .entry)) (commands (now (xs .entry)) (now (ys .entry)) (now (kinds .entry))) (now (threads .entry))) (now (out .entry)) ⌝ }
+    ensures { λ r. ⌜ r ≡ writeAnswer (writeVerdict (Of Dst) (was name) (was xs) (was ys) (was kinds) (was threads) (length (was out))) (length (fileOf Dst (was name) (commands (was xs) (was ys) (was kinds)) (was threads))) ⌝ }
+    ensures { λ _. ⌜ left out ≡ filled (writeVerdict (Of Dst) (was name) (was xs) (was ys) (was kinds) (was threads) (length (was out))) (fileOf Dst (was name) (commands (was xs) (was ys) (was kinds)) (was threads)) (was out) ⌝ }
 {
     let checked = check_list(Format::Dst, xs, ys, kinds, threads);
     match checked {

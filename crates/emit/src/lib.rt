@@ -9,11 +9,12 @@ ghost use lib.Dec.{leb, ltb};
 ghost use lib.IntN.{natAbs, _-ℤ_};
 ghost use lib.ListN.{length, take, replicate};
 ghost use Rattle.rules.specs.Vocabulary.{keep, little, digitAt, padded, right};
-ghost use Rattle.laws.specs.Buffers.{Put};
+ghost use Rattle.rules.specs.Promises.{was};
+ghost use Rattle.laws.specs.Buffers.{Puts};
 
 pub fn put(out: &mut [u8], at: usize, a: u8) -> usize
     requires { ⌜ at + 1 ≤ length (now out) ⌝ }
-    ensures { λ r. ⌜ Put (now (out .entry)) (now (out .exit)) at r (a ∷ []) ⌝ }
+    ensures { λ r. ⌜ Puts out at r (a ∷ []) ⌝ }
 {
     out[at] = a;
     at + 1
@@ -21,7 +22,7 @@ pub fn put(out: &mut [u8], at: usize, a: u8) -> usize
 
 pub fn put2(out: &mut [u8], at: usize, a: u8, b: u8) -> usize
     requires { ⌜ at + 2 ≤ length (now out) ⌝ }
-    ensures { λ r. ⌜ Put (now (out .entry)) (now (out .exit)) at r (a ∷ b ∷ []) ⌝ }
+    ensures { λ r. ⌜ Puts out at r (a ∷ b ∷ []) ⌝ }
 {
     out[at] = a;
     out[at + 1] = b;
@@ -30,7 +31,7 @@ pub fn put2(out: &mut [u8], at: usize, a: u8, b: u8) -> usize
 
 pub fn put3(out: &mut [u8], at: usize, a: u8, b: u8, c: u8) -> usize
     requires { ⌜ at + 3 ≤ length (now out) ⌝ }
-    ensures { λ r. ⌜ Put (now (out .entry)) (now (out .exit)) at r (a ∷ b ∷ c ∷ []) ⌝ }
+    ensures { λ r. ⌜ Puts out at r (a ∷ b ∷ c ∷ []) ⌝ }
 {
     out[at] = a;
     out[at + 1] = b;
@@ -40,7 +41,7 @@ pub fn put3(out: &mut [u8], at: usize, a: u8, b: u8, c: u8) -> usize
 
 pub fn put4(out: &mut [u8], at: usize, a: u8, b: u8, c: u8, d: u8) -> usize
     requires { ⌜ at + 4 ≤ length (now out) ⌝ }
-    ensures { λ r. ⌜ Put (now (out .entry)) (now (out .exit)) at r (a ∷ b ∷ c ∷ d ∷ []) ⌝ }
+    ensures { λ r. ⌜ Puts out at r (a ∷ b ∷ c ∷ d ∷ []) ⌝ }
 {
     out[at] = a;
     out[at + 1] = b;
@@ -52,7 +53,7 @@ pub fn put4(out: &mut [u8], at: usize, a: u8, b: u8, c: u8, d: u8) -> usize
 // A number in four bytes, the low byte first.
 pub fn put_word(out: &mut [u8], at: usize, v: u32) -> usize
     requires { ⌜ at + 4 ≤ length (now out) ⌝ }
-    ensures { λ r. ⌜ Put (now (out .entry)) (now (out .exit)) at r (little 4 v) ⌝ }
+    ensures { λ r. ⌜ Puts out at r (little 4 v) ⌝ }
 {
     let high = v / 256;
     let higher = high / 256;
@@ -70,7 +71,7 @@ pub fn put_word(out: &mut [u8], at: usize, v: u32) -> usize
 // A number in three bytes, the low byte first; what is past them is lost.
 pub fn put_three(out: &mut [u8], at: usize, v: u32) -> usize
     requires { ⌜ at + 3 ≤ length (now out) ⌝ }
-    ensures { λ r. ⌜ Put (now (out .entry)) (now (out .exit)) at r (little 3 v) ⌝ }
+    ensures { λ r. ⌜ Puts out at r (little 3 v) ⌝ }
 {
     let high = v / 256;
     let top = high / 256;
@@ -86,7 +87,7 @@ pub fn put_three(out: &mut [u8], at: usize, v: u32) -> usize
 // A number in two bytes, the low byte first; what is past them is lost.
 pub fn put_short(out: &mut [u8], at: usize, v: usize) -> usize
     requires { ⌜ at + 2 ≤ length (now out) ⌝ }
-    ensures { λ r. ⌜ Put (now (out .entry)) (now (out .exit)) at r (little 2 v) ⌝ }
+    ensures { λ r. ⌜ Puts out at r (little 2 v) ⌝ }
 {
     let high = v / 256;
     put2(out, at, (v % 256) as u8, (high % 256) as u8)
@@ -94,7 +95,7 @@ pub fn put_short(out: &mut [u8], at: usize, v: usize) -> usize
 
 pub fn put_text(out: &mut [u8], at: usize, text: &[u8]) -> usize
     requires { ⌜ at + length (now text) ≤ length (now out) ⌝ }
-    ensures { λ r. ⌜ Put (now (out .entry)) (now (out .exit)) at r (now (text .entry)) ⌝ }
+    ensures { λ r. ⌜ Puts out at r (was text) ⌝ }
 {
     let mut i = 0;
     let mut to = at;
@@ -108,7 +109,7 @@ pub fn put_text(out: &mut [u8], at: usize, text: &[u8]) -> usize
 // The same byte n times.
 pub fn put_times(out: &mut [u8], at: usize, a: u8, n: usize) -> usize
     requires { ⌜ at + n ≤ length (now out) ⌝ }
-    ensures { λ r. ⌜ Put (now (out .entry)) (now (out .exit)) at r (replicate n a) ⌝ }
+    ensures { λ r. ⌜ Puts out at r (replicate n a) ⌝ }
 {
     let mut left = n;
     let mut to = at;
@@ -132,7 +133,7 @@ fn stays(b: u8, low: u8, high: u8) -> bool
 // Of a name the first `most` bytes that are from `low` to before `high`, filled with blanks to 16 bytes.
 pub fn put_name(name: &[u8], low: u8, high: u8, most: usize, out: &mut [u8], at: usize) -> usize
     requires { ⌜ (most ≤ 16) × (at + 16 ≤ length (now out)) ⌝ }
-    ensures { λ r. ⌜ Put (now (out .entry)) (now (out .exit)) at r (padded 16 (take most (keep (λ (b : ℕ). leb low b && ltb b high) (now (name .entry))))) ⌝ }
+    ensures { λ r. ⌜ Puts out at r (padded 16 (take most (keep (λ (b : ℕ). leb low b && ltb b high) (was name)))) ⌝ }
 {
     let fill = 16 - most;
     let mut left = most;
@@ -184,7 +185,7 @@ fn digit_at(k: usize, v: u32) -> u8
 // A number in decimal, right-aligned in n columns.
 pub fn put_right(out: &mut [u8], at: usize, n: usize, v: u32) -> usize
     requires { ⌜ (n ≤ 10) × (at + n ≤ length (now out)) ⌝ }
-    ensures { λ r. ⌜ Put (now (out .entry)) (now (out .exit)) at r (right n v) ⌝ }
+    ensures { λ r. ⌜ Puts out at r (right n v) ⌝ }
 {
     let mut left = n;
     let mut to = at;

@@ -17,6 +17,7 @@ ghost use lib.ListN.{length};
 ghost use Rattle.rules.specs.Lists.{opOf, commands, minZ, maxZ};
 ghost use Rattle.rules.specs.Refusals.{lower, named, extensionOf, placeOutside};
 ghost use Rattle.rules.specs.Choices.{halfToEven, gap, weighed, distance, sameColor, nearestIndex, pecPalette};
+ghost use Rattle.rules.specs.Promises.{was};
 ghost use Rattle.geom.specs.Frames.{boundsOf};
 ghost use Rattle.laws.specs.Choosing.{takes};
 ghost use Rattle.formats.specs.Best.{closerOf};
@@ -48,7 +49,7 @@ fn lower(b: u8) -> u8
 
 // Whether an extension is three given small letters, without regard to case.
 fn is_named(ext: &[u8], a: u8, b: u8, c: u8) -> bool
-    ensures { λ r. ⌜ r ≡ named (now (ext .entry)) (a ∷ b ∷ c ∷ []) ⌝ }
+    ensures { λ r. ⌜ r ≡ named (was ext) (a ∷ b ∷ c ∷ []) ⌝ }
 {
     if ext.len() != 3 {
         return false;
@@ -64,7 +65,7 @@ fn is_named(ext: &[u8], a: u8, b: u8, c: u8) -> bool
 
 // The format that an extension names.
 pub fn extension_of(ext: &[u8]) -> Extension
-    ensures { λ r. ⌜ r ≡ extensionOf (now (ext .entry)) ⌝ }
+    ensures { λ r. ⌜ r ≡ extensionOf (was ext) ⌝ }
 {
     if is_named(ext, 0x70, 0x65, 0x73) {
         return Extension::Of(Format::Pes);
@@ -92,7 +93,7 @@ fn smaller(a: usize, b: usize) -> usize
 
 // How many commands three slices hold.
 pub fn list_len(xs: &[i32], ys: &[i32], kinds: &[u8]) -> usize
-    ensures { λ r. ⌜ r ≡ length (commands (now (xs .entry)) (now (ys .entry)) (now (kinds .entry))) ⌝ }
+    ensures { λ r. ⌜ r ≡ length (commands (was xs) (was ys) (was kinds)) ⌝ }
 {
     let n = smaller(xs.len(), ys.len());
     smaller(n, kinds.len())
@@ -100,7 +101,7 @@ pub fn list_len(xs: &[i32], ys: &[i32], kinds: &[u8]) -> usize
 
 // The bounds of every command's place; (0, 0) alone where there is none.
 pub fn stream_bounds(xs: &[i32], ys: &[i32], kinds: &[u8]) -> Bounds
-    ensures { λ r. ⌜ r ≡ boundsOf (commands (now (xs .entry)) (now (ys .entry)) (now (kinds .entry))) ⌝ }
+    ensures { λ r. ⌜ r ≡ boundsOf (commands (was xs) (was ys) (was kinds)) ⌝ }
 {
     let n = list_len(xs, ys, kinds);
     if n == 0 {
@@ -130,7 +131,7 @@ fn greatest(a: i16, b: i16) -> i16
 // The same where every place lies from -16,000 to 16,000, in numbers of 16 bits.
 pub fn near_bounds(xs: &[i32], ys: &[i32], kinds: &[u8]) -> Bounds
     requires { ⌜ placeOutside (commands (now xs) (now ys) (now kinds)) ≡ false ⌝ }
-    ensures { λ r. ⌜ r ≡ boundsOf (commands (now (xs .entry)) (now (ys .entry)) (now (kinds .entry))) ⌝ }
+    ensures { λ r. ⌜ r ≡ boundsOf (commands (was xs) (was ys) (was kinds)) ⌝ }
 {
     let n = list_len(xs, ys, kinds);
     if n == 0 {

@@ -3,6 +3,8 @@
 use Prim.Native.Nat.{ℕ, suc, _+_, _≤_}
 use mathlib.Core.Path.{_≡_, refl, sym, ap, _∙_}
 use mathlib.Core.List.{List, [], _∷_, _++_}
+use denote.Ref.{RefT, now}
+use denote.Triple.Both.{Both}
 use native.Mathlib.Nat.{add-zero, zero-add, add-suc, suc-add}
 use native.Mathlib.Omega.{arith}
 use lib.ListN.{length, take, drop, set, length-append}
@@ -13,7 +15,12 @@ pub record Put {A : Type 0} (d d′ : List A) (at r : ℕ) (vs : List A) : Type 
   pub ends : r ≡ at + length vs
   pub stored : d′ ≡ sets d at vs
 
--- d₀ is the buffer at first, `whole` is what it gets from `base` on, d is the buffer now, written as far as n, and `coming` is still to come
+-- the same of a buffer that a call is lent, at entry and at exit
+abbrev pub Puts : {A : Type 0} → Both (RefT (List A)) (RefT (List A)) → ℕ → ℕ → List A → Type 0
+Puts out at r vs = Put (now (out .entry)) (now (out .exit)) at r vs
+
+-- d₀ is the buffer at first, `whole` is what it gets from `base` on, d is the buffer now, written as far as n, and `coming` is still to
+-- come
 pub record Writing {A : Type 0} (d₀ : List A) (base : ℕ) (whole d : List A) (n : ℕ) (coming : List A) : Type 0 where
   pub same : length d ≡ length d₀
   pub rest : sets d n coming ≡ sets d₀ base whole
@@ -62,7 +69,8 @@ module _ {A : Type 0} where
   put-front {d} {vs = vs} h p = (omega arith, p .stored ∙ sets-eq vs d 0 (omega arith) ∙ rw zero-add)
 
   -- ---- Writing, the invariant of a loop that appends and the state between two calls of straight-line code:
-  -- it begins by `writing-start`; a call's room is `writing-room`, and after the call it is `writing-more` by what the call ensures; `writing-done` ends it. The buffer's length is `w .same`.
+  -- it begins by `writing-start`; a call's room is `writing-room`, and after the call it is `writing-more` by what the call ensures;
+  -- `writing-done` ends it. The buffer's length is `w .same`.
 
   pub writing-start : (d : List A) (base : ℕ) (whole : List A) → base + length whole ≤ length d → Writing d base whole d base whole
   writing-start d base whole h = record { same = refl; rest = refl; place = refl; room = h }

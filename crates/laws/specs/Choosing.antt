@@ -1,4 +1,5 @@
--- The choice of a palette's entry: `nearestIndex` and `nearestFirst` are the entry at the least distance, of equals the later and the first.
+-- The choice of a palette's entry: `nearestIndex` and `nearestFirst` are the entry at the least distance, of equals the later and the
+-- first.
 -- The same facts of the entries seen so far are the invariant of the loop that chooses. Assumes nothing.
 use Prim.Native.Nat.{ℕ, zero, suc, _+_, _<_, _≤_}
 use mathlib.Core.Path.{_≡_, refl, sym, ap, _∙_, subst}
@@ -112,7 +113,8 @@ module _ (c : Color) (ps : List Slot) (n : ℕ) where
   }
 
   turn : (later : Bool) {k : ℕ} {u : Color} (t : Color) → getD ps n Empty ≡ Thread t → Chosen later c ps n k u
-      → Leading later c ps (n + 1) (pick (takes later (At k) (distance c u) (distance c t)) (At n) (At k)) (pick (takes later (At k) (distance c u) (distance c t)) (distance c t) (distance c u))
+      → Leading later c ps (n + 1) (pick (takes later (At k) (distance c u) (distance c t)) (At n) (At k))
+      (pick (takes later (At k) (distance c u) (distance c t)) (distance c t) (distance c u))
   turn true {k} {u} t e w = by-test (leb (distance c t) (distance c u))
       (λ y. rw y (some (leads true t e w (leb-true _ _ y) (λ j l b. absurd (omega arith)))))
       (λ y. rw y (some (stays true w (rw e (omega (arith, leb-false))) (λ b. rw e (leb-false _ _ y)))))
@@ -181,7 +183,8 @@ leader later c ps (suc n) =
     let l = leader later c ps n in
     record { at = _; away = _; leading = rw add-one at (leading-more c ps n later (getD ps n Empty) refl (l .leading)) }
 
--- What the definitions say: the entry found is a thread, no other is nearer, and of equals it is the later or the first. Nothing is found only where there is no thread.
+-- What the definitions say: the entry found is a thread, no other is nearer, and of equals it is the later or the first. Nothing is found
+-- only where there is no thread.
 chosen-of : (later : Bool) (c : Color) (ps : List Slot) (k : ℕ) {at : Found} {d : ℕ} → at ≡ At k → Leading later c ps (length ps) at d → (t : Color) × Chosen later c ps (length ps) k t
 chosen-of later c ps k e (none h) = let z : _≡_ {A = ℕ} 0 1 = cc in absurd (omega arith)
 chosen-of later c ps k e (some {k = i} {t} w) = let z : i ≡ k = cc in (t, subst (λ (j : ℕ). Chosen later c ps (length ps) j t) z w)

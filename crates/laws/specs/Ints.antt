@@ -1,5 +1,7 @@
--- Signed numbers as omega can read them. It knows natural numbers, so a signed number is told as a difference of two: `Is v p q` says that v is p - q,
--- with one law for each operation, and what is known or wanted of v (equal, fitting, read back) follows from that by one law each, for every operation.
+-- Signed numbers as omega can read them. It knows natural numbers, so a signed number is told as a difference of two: `Is v p q` says
+-- that v is p - q,
+-- with one law for each operation, and what is known or wanted of v (equal, fitting, read back) follows from that by one law each, for
+-- every operation.
 -- How to use it:
 --     omega ints                                            what an operation or a cast asks, an order, an equation
 --     let h : SFits w32 z = fit w32 z (c .f .ok) in ..      where z is a result, a field or an element, of which only the type is known
@@ -248,7 +250,38 @@ pub fits-abs : {w : Width} (z : ℤ) → max (2 * up z) (2 * dn z) < 2 ^ bits w 
 fits-abs z h = record { fits = omega (arith, abs-is z, one0 z) }
 
 -- omega takes the first rule that fits: a difference is a sum too, and both are numbers
-pub ruleset ints = (is-sub, is-add, is-neg, is-mul, is-eq, read-sub, read-add, read-mul, read, fits-sub, fits-add, fits-mul, fits-pos, fits-parts, fits-abs, le-true, le-false, lt-true, lt-false, le-T, lt-T, T-le, T-lt, T-nonNeg, eq-sub, eq-add, eq-neg, eq-mul, parts, arith)
+pub ruleset ints = (
+  is-sub,
+  is-add,
+  is-neg,
+  is-mul,
+  is-eq,
+  read-sub,
+  read-add,
+  read-mul,
+  read,
+  fits-sub,
+  fits-add,
+  fits-mul,
+  fits-pos,
+  fits-parts,
+  fits-abs,
+  le-true,
+  le-false,
+  lt-true,
+  lt-false,
+  le-T,
+  lt-T,
+  T-le,
+  T-lt,
+  T-nonNeg,
+  eq-sub,
+  eq-add,
+  eq-neg,
+  eq-mul,
+  parts,
+  arith,
+)
 
 -- ---- ranges and what is read back, to be cited by name
 

@@ -13,7 +13,8 @@ use Rattle.rules.specs.Refusals.{changes}
 use Rattle.rules.specs.Charts.{blankIcon}
 use Rattle.rules.specs.Thumbnails.{f4, f5, scaleOf, pixel, painted, marked, drawn, atFront, colorBlocks, icons}
 use Rattle.rules.specs.Pec.{wide, pecValue, PecState, pecStart, pecNext, pause, pecCmd, pecStitches, uniquePalette, pecColors, pecHeader, pecBlock, pecPart, pecFile}
-use Rattle.rules.specs.Pes.{matrixField, runLength, PesState, pesStart, opens, pesNext, pesPoint, pesOpen, pesCmd, pesSections, opensSection, colorLog, pesString, shorts, pesBlocks, pesMiddle, pesFile}
+use Rattle.rules.specs.Pes.{matrixField, runLength, PesState, pesStart, opens, pesNext, pesPoint, pesOpen, pesCmd, pesSections, opensSection, colorLog, pesString, shorts}
+use Rattle.rules.specs.Pes.{pesBlocks, pesMiddle, pesFile}
 use Rattle.rules.specs.declared.Cmd.{Cmd}
 use Rattle.rules.specs.declared.Color.{Color}
 use Rattle.rules.specs.declared.Op.{Op}

@@ -1,4 +1,5 @@
--- Laws for loops over a list: what is left at i is the element at i and what is left at i + 1. For any list, and for the list of commands that three slices hold.
+-- Laws for loops over a list: what is left at i is the element at i and what is left at i + 1. For any list, and for the list of commands
+-- that three slices hold.
 -- Assumes nothing.
 use Prim.Native.Nat.{ℕ, zero, suc, _+_, _≤_, _<_, min}
 use mathlib.Core.Path.{_≡_, refl, sym, _∙_}

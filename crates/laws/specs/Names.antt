@@ -1,4 +1,5 @@
--- A name in columns: what is to come of it, n bytes of those that pass the test p at most and m columns more, all filled with blanks; and how it gets less.
+-- A name in columns: what is to come of it, n bytes of those that pass the test p at most and m columns more, all filled with blanks; and
+-- how it gets less.
 -- Assumes nothing.
 use Prim.Native.Nat.{ℕ, zero, suc, _+_, _-_, _≤_, _<_}
 use mathlib.Core.Path.{_≡_, refl, ap}

@@ -1,4 +1,5 @@
--- Where no command is outside, every place, and so the bounds, lie from -16,000 to 16,000, and two of them are at most 32,000 apart. Assumes nothing.
+-- Where no command is outside, every place, and so the bounds, lie from -16,000 to 16,000, and two of them are at most 32,000 apart.
+-- Assumes nothing.
 use Prim.Native.Nat.{ℕ, zero, suc, _≤_, _<_}
 use mathlib.Core.Path.{_≡_}
 use mathlib.Core.Bool.{Bool, true, false, not}

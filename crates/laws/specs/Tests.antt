@@ -1,5 +1,6 @@
 -- Small laws of tests: a Bool and the type that it stands for, `&&`, `||`, and `pick`.
--- What a test of two numbers says is in borrow.Author.Tests (`ltb-true`, `lt-ltb`, ..) and, as types, in mir.Facts (`ltb-yes`, `and-yes`, `or-yes`, ..).
+-- What a test of two numbers says is in borrow.Author.Tests (`ltb-true`, `lt-ltb`, ..) and, as types, in mir.Facts (`ltb-yes`, `and-yes`,
+-- `or-yes`, ..).
 -- Assumes nothing.
 use Prim.Native.Nat.{ℕ, _≤_, _<_}
 use mathlib.Core.Path.{_≡_, refl, sym, subst}

@@ -1,4 +1,5 @@
--- Two's complement at any width: `signed k` and `bitsOf k` of k + 1 bits. The range is `InBits k z` (Ints), which `omega ints` proves at a numeral k, as it does every bound on `up` and `dn`.
+-- Two's complement at any width: `signed k` and `bitsOf k` of k + 1 bits. The range is `InBits k z` (Ints), which `omega ints` proves at
+-- a numeral k, as it does every bound on `up` and `dn`.
 -- Assumes nothing.
 use Prim.Native.Nat.{ℕ, suc, _+_, _-_, _*_, _^_, _/_, _%_, _≤_, _<_}
 use mathlib.Core.Path.{_≡_, sym, ap, _∙_}

@@ -21,8 +21,9 @@ ghost use lib.ListN.{length};
 ghost use Rattle.rules.specs.Lists.{commands};
 ghost use Rattle.rules.specs.Pec.{pecStart, pecStitches};
 ghost use Rattle.rules.specs.Refusals.{stepTooLong};
+ghost use Rattle.rules.specs.Promises.{was};
 ghost use Rattle.rules.specs.declared.Format.the-variants.{Pec};
-ghost use Rattle.laws.specs.Buffers.{Put};
+ghost use Rattle.laws.specs.Buffers.{Puts};
 ghost use Rattle.pec.specs.Shorts.{ShortAt, Shorts, pairs};
 
 // A stitch that follows a stitch or a colour change: no stitch 00 00 goes before it.
@@ -39,7 +40,7 @@ fn is_going(kind: u8, jumped: bool) -> bool
 fn is_short_at(xs: &[i32], ys: &[i32], kinds: &[u8], i: usize) -> bool
     requires { ⌜ (0 < i) × (i < length (commands (now xs) (now ys) (now kinds))) ⌝ }
     requires { ⌜ stepTooLong Pec (commands (now xs) (now ys) (now kinds)) ≡ false ⌝ }
-    ensures { λ r. ⌜ (r ≡ true → ShortAt (now (xs .entry)) (now (ys .entry)) (now (kinds .entry)) i) ⌝ }
+    ensures { λ r. ⌜ (r ≡ true → ShortAt (was xs) (was ys) (was kinds) i) ⌝ }
 {
     let dx = step(xs[i - 1], xs[i]);
     let dy = step(ys[i - 1], ys[i]);
@@ -50,7 +51,7 @@ fn is_short_at(xs: &[i32], ys: &[i32], kinds: &[u8], i: usize) -> bool
 fn are_short(xs: &[i32], ys: &[i32], kinds: &[u8], i: usize) -> bool
     requires { ⌜ (0 < i) × (i + 8 ≤ length (commands (now xs) (now ys) (now kinds))) ⌝ }
     requires { ⌜ stepTooLong Pec (commands (now xs) (now ys) (now kinds)) ≡ false ⌝ }
-    ensures { λ r. ⌜ (r ≡ true → Shorts (now (xs .entry)) (now (ys .entry)) (now (kinds .entry)) i (i + 8)) ⌝ }
+    ensures { λ r. ⌜ (r ≡ true → Shorts (was xs) (was ys) (was kinds) i (i + 8)) ⌝ }
 {
     let mut all = true;
     let mut k = i;
@@ -65,7 +66,7 @@ fn are_short(xs: &[i32], ys: &[i32], kinds: &[u8], i: usize) -> bool
 fn short_till(xs: &[i32], ys: &[i32], kinds: &[u8], i: usize) -> usize
     requires { ⌜ (0 < i) × (i ≤ length (commands (now xs) (now ys) (now kinds))) ⌝ }
     requires { ⌜ stepTooLong Pec (commands (now xs) (now ys) (now kinds)) ≡ false ⌝ }
-    ensures { λ r. ⌜ (i ≤ r) × ((r ≤ length (commands (now (xs .entry)) (now (ys .entry)) (now (kinds .entry)))) × Shorts (now (xs .entry)) (now (ys .entry)) (now (kinds .entry)) i r) ⌝ }
+    ensures { λ r. ⌜ (i ≤ r) × ((r ≤ length (commands (was xs) (was ys) (was kinds))) × Shorts (was xs) (was ys) (was kinds) i r) ⌝ }
 {
     let n = list_len(xs, ys, kinds);
     let mut k = i;
@@ -91,7 +92,7 @@ fn put_shorts(
     requires { ⌜ (0 < i) × ((i ≤ j) × (j ≤ length (commands (now xs) (now ys) (now kinds)))) ⌝ }
     requires { ⌜ Shorts (now xs) (now ys) (now kinds) i j ⌝ }
     requires { ⌜ at + 2 * (j - i) ≤ length (now out) ⌝ }
-    ensures { λ r. ⌜ Put (now (out .entry)) (now (out .exit)) at r (pairs (now (xs .entry)) (now (ys .entry)) i (j - i)) ⌝ }
+    ensures { λ r. ⌜ Puts out at r (pairs (was xs) (was ys) i (j - i)) ⌝ }
 {
     let mut k = i;
     let mut to = at;
@@ -127,7 +128,7 @@ fn one_less(wait: usize) -> usize
 // The bytes that all commands take.
 pub fn pec_len(xs: &[i32], ys: &[i32], kinds: &[u8]) -> usize
     requires { ⌜ (length (now kinds) ≤ 65535) × (stepTooLong Pec (commands (now xs) (now ys) (now kinds)) ≡ false) ⌝ }
-    ensures { λ r. ⌜ r ≡ length (pecStitches pecStart (pos 0) (pos 0) (commands (now (xs .entry)) (now (ys .entry)) (now (kinds .entry)))) ⌝ }
+    ensures { λ r. ⌜ r ≡ length (pecStitches pecStart (pos 0) (pos 0) (commands (was xs) (was ys) (was kinds))) ⌝ }
 {
     let n = list_len(xs, ys, kinds);
     let mut s = start();
@@ -170,7 +171,7 @@ pub fn pec_len(xs: &[i32], ys: &[i32], kinds: &[u8]) -> usize
 pub fn pec_encode(xs: &[i32], ys: &[i32], kinds: &[u8], out: &mut [u8], at: usize) -> usize
     requires { ⌜ stepTooLong Pec (commands (now xs) (now ys) (now kinds)) ≡ false ⌝ }
     requires { ⌜ at + length (pecStitches pecStart (pos 0) (pos 0) (commands (now xs) (now ys) (now kinds))) ≤ length (now out) ⌝ }
-    ensures { λ r. ⌜ Put (now (out .entry)) (now (out .exit)) at r (pecStitches pecStart (pos 0) (pos 0) (commands (now (xs .entry)) (now (ys .entry)) (now (kinds .entry)))) ⌝ }
+    ensures { λ r. ⌜ Puts out at r (pecStitches pecStart (pos 0) (pos 0) (commands (was xs) (was ys) (was kinds))) ⌝ }
 {
     let n = list_len(xs, ys, kinds);
     let mut s = start();

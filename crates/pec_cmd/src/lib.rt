@@ -13,7 +13,7 @@ ghost use lib.ListN.{length};
 ghost use Rattle.rules.specs.Vocabulary.{pick, between, bitsOf, eqZ};
 ghost use Rattle.rules.specs.Pec.{wide, pecValue, pecStart, pecNext, pause, pecCmd};
 ghost use Rattle.rules.specs.declared.Op.the-variants.{Stitch, Jump, ColorChange};
-ghost use Rattle.laws.specs.Buffers.{Put};
+ghost use Rattle.laws.specs.Buffers.{Puts};
 ghost use Rattle.pec_cmd.specs.States.{stateOf, Step};
 
 // Between two commands: no stitch or colour change since the last jump, or since the list began; the next colour byte is 02;
@@ -89,7 +89,7 @@ fn low12(z: i32) -> u32
 fn put_wide(flag: u8, z: i32, out: &mut [u8], at: usize) -> usize
     requires { ⌜ (flag ≤ 240) × (natAbs z ≤ 2048) ⌝ }
     requires { ⌜ at + 2 ≤ length (now out) ⌝ }
-    ensures { λ r. ⌜ Put (now (out .entry)) (now (out .exit)) at r (wide flag z) ⌝ }
+    ensures { λ r. ⌜ Puts out at r (wide flag z) ⌝ }
 {
     let v = low12(z);
     put2(out, at, flag + (v / 256) as u8, (v % 256) as u8)
@@ -115,7 +115,7 @@ pub fn steps_len(dx: i32, dy: i32) -> usize
 fn pec_value(z: i32, out: &mut [u8], at: usize) -> usize
     requires { ⌜ natAbs z ≤ 2048 ⌝ }
     requires { ⌜ at + length (pecValue z) ≤ length (now out) ⌝ }
-    ensures { λ r. ⌜ Put (now (out .entry)) (now (out .exit)) at r (pecValue z) ⌝ }
+    ensures { λ r. ⌜ Puts out at r (pecValue z) ⌝ }
 {
     if is_short(z) {
         return put(out, at, low7(z));
@@ -127,7 +127,7 @@ fn pec_value(z: i32, out: &mut [u8], at: usize) -> usize
 pub fn put_steps(dx: i32, dy: i32, out: &mut [u8], at: usize) -> usize
     requires { ⌜ Step dx dy ⌝ }
     requires { ⌜ at + length (pecValue dx ++ pecValue dy) ≤ length (now out) ⌝ }
-    ensures { λ r. ⌜ Put (now (out .entry)) (now (out .exit)) at r (pecValue dx ++ pecValue dy) ⌝ }
+    ensures { λ r. ⌜ Puts out at r (pecValue dx ++ pecValue dy) ⌝ }
 {
     if steps_len(dx, dy) == 2 {
         return put2(out, at, low7(dx), low7(dy));
@@ -151,7 +151,7 @@ fn pauses(jumped: bool, dx: i32, dy: i32) -> bool
 
 fn put_pause(needed: bool, out: &mut [u8], at: usize) -> usize
     requires { ⌜ at + length (pause needed) ≤ length (now out) ⌝ }
-    ensures { λ r. ⌜ Put (now (out .entry)) (now (out .exit)) at r (pause needed) ⌝ }
+    ensures { λ r. ⌜ Puts out at r (pause needed) ⌝ }
 {
     if needed {
         return put2(out, at, 0x00, 0x00);
@@ -171,7 +171,7 @@ fn pause_len(needed: bool) -> usize
 fn put_stitch(s: State, dx: i32, dy: i32, out: &mut [u8], at: usize) -> usize
     requires { ⌜ Step dx dy ⌝ }
     requires { ⌜ at + length (pecCmd (stateOf s) Stitch dx dy) ≤ length (now out) ⌝ }
-    ensures { λ r. ⌜ Put (now (out .entry)) (now (out .exit)) at r (pecCmd (stateOf s) Stitch dx dy) ⌝ }
+    ensures { λ r. ⌜ Puts out at r (pecCmd (stateOf s) Stitch dx dy) ⌝ }
 {
     let x = put_pause(pauses(s.jumped, dx, dy), out, at);
     let y = pec_value(dx, out, x);
@@ -191,7 +191,7 @@ fn flag(opening: bool) -> u8
 fn put_jump(s: State, dx: i32, dy: i32, out: &mut [u8], at: usize) -> usize
     requires { ⌜ Step dx dy ⌝ }
     requires { ⌜ at + 4 ≤ length (now out) ⌝ }
-    ensures { λ r. ⌜ Put (now (out .entry)) (now (out .exit)) at r (pecCmd (stateOf s) Jump dx dy) ⌝ }
+    ensures { λ r. ⌜ Puts out at r (pecCmd (stateOf s) Jump dx dy) ⌝ }
 {
     let f = flag(s.opening);
     let y = put_wide(f, dx, out, at);
@@ -209,7 +209,7 @@ fn color_byte(two: bool) -> u8
 
 fn put_change(s: State, out: &mut [u8], at: usize) -> usize
     requires { ⌜ at + length (pecCmd (stateOf s) ColorChange (pos 0) (pos 0)) ≤ length (now out) ⌝ }
-    ensures { λ r. ⌜ Put (now (out .entry)) (now (out .exit)) at r (pecCmd (stateOf s) ColorChange (pos 0) (pos 0)) ⌝ }
+    ensures { λ r. ⌜ Puts out at r (pecCmd (stateOf s) ColorChange (pos 0) (pos 0)) ⌝ }
 {
     let change = put_pause(s.jumped, out, at);
     put3(out, change, 0xFE, 0xB0, color_byte(s.two))
@@ -231,7 +231,7 @@ pub fn cmd_len(s: State, op: Op, dx: i32, dy: i32) -> usize
 pub fn put_cmd(s: State, op: Op, dx: i32, dy: i32, out: &mut [u8], at: usize) -> usize
     requires { ⌜ Step dx dy ⌝ }
     requires { ⌜ at + length (pecCmd (stateOf s) op dx dy) ≤ length (now out) ⌝ }
-    ensures { λ r. ⌜ Put (now (out .entry)) (now (out .exit)) at r (pecCmd (stateOf s) op dx dy) ⌝ }
+    ensures { λ r. ⌜ Puts out at r (pecCmd (stateOf s) op dx dy) ⌝ }
 {
     match op {
         Op::Stitch => put_stitch(s, dx, dy, out, at),

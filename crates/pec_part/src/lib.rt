@@ -1,6 +1,5 @@
 // PEC: the header and the stitch block that a PEC file holds after its signature and a PES file at its end.
 // A port of src/formats/pes.rs of zigzag, changed.
-use checks::color_changes;
 use emit::put;
 use emit::put_name;
 use emit::put_short;
@@ -12,9 +11,10 @@ use emit::put3;
 use emit::put4;
 use emit::spread;
 use geom::Bounds;
-use palette::unique_palette;
 use pec::pec_encode;
+use pec_palette::unique_palette;
 use thumbnails::put_icons;
+use write_refusals::color_changes;
 ghost use mathlib.Core.Path.{_≡_};
 ghost use mathlib.Core.Bool.{false};
 ghost use mathlib.Core.List.{[]};
@@ -24,15 +24,16 @@ ghost use lib.ListN.{length, replicate};
 ghost use Rattle.rules.specs.Lists.{commands, threadsOf};
 ghost use Rattle.rules.specs.Pec.{pecStart, pecStitches, uniquePalette, pecColors, pecHeader, pecPart};
 ghost use Rattle.rules.specs.Refusals.{stepTooLong};
+ghost use Rattle.rules.specs.Promises.{was};
 ghost use Rattle.rules.specs.declared.Format.the-variants.{Pec};
-ghost use Rattle.laws.specs.Buffers.{Put};
+ghost use Rattle.laws.specs.Buffers.{Puts};
 ghost use Rattle.geom.specs.Frames.{boundsOf};
 ghost use Rattle.pec_part.specs.Parts.{labelText, sizesText, partLong};
 
 // `LA:`, the name, a carriage return, 12 blanks, FF 00, 6 bytes by 38 rows.
 fn put_label(name: &[u8], out: &mut [u8], at: usize) -> usize
     requires { ⌜ at + 36 ≤ length (now out) ⌝ }
-    ensures { λ r. ⌜ Put (now (out .entry)) (now (out .exit)) at r (labelText (now (name .entry))) ⌝ }
+    ensures { λ r. ⌜ Puts out at r (labelText (was name)) ⌝ }
 {
     let text = put3(out, at, 0x4C, 0x41, 0x3A);
     let end = put_name(name, 0x00, 0x80, 8, out, text);
@@ -44,7 +45,7 @@ fn put_label(name: &[u8], out: &mut [u8], at: usize) -> usize
 // Where there are no threads: 12 bytes, and count byte FF.
 fn put_no_colors(out: &mut [u8], at: usize) -> usize
     requires { ⌜ at + 13 ≤ length (now out) ⌝ }
-    ensures { λ r. ⌜ Put (now (out .entry)) (now (out .exit)) at r (pecColors []) ⌝ }
+    ensures { λ r. ⌜ Puts out at r (pecColors []) ⌝ }
 {
     let second = put4(out, at, 0x20, 0x20, 0x20, 0x20);
     let third = put4(out, second, 0x64, 0x20, 0x00, 0x20);
@@ -56,7 +57,7 @@ fn put_no_colors(out: &mut [u8], at: usize) -> usize
 fn put_colors(threads: &[u8], out: &mut [u8], at: usize) -> usize
     requires { ⌜ length (now threads) ≤ 765 ⌝ }
     requires { ⌜ at + (13 + length (threadsOf (now threads))) ≤ length (now out) ⌝ }
-    ensures { λ r. ⌜ Put (now (out .entry)) (now (out .exit)) at r (pecColors (uniquePalette (threadsOf (now (threads .entry))))) ⌝ }
+    ensures { λ r. ⌜ Puts out at r (pecColors (uniquePalette (threadsOf (was threads)))) ⌝ }
 {
     let n = threads.len() / 3;
     if n == 0 {
@@ -71,7 +72,7 @@ fn put_colors(threads: &[u8], out: &mut [u8], at: usize) -> usize
 fn put_fill(n: usize, out: &mut [u8], at: usize) -> usize
     requires { ⌜ n ≤ 463 ⌝ }
     requires { ⌜ at + (463 - n) ≤ length (now out) ⌝ }
-    ensures { λ r. ⌜ Put (now (out .entry)) (now (out .exit)) at r (replicate (463 - n) 0x20) ⌝ }
+    ensures { λ r. ⌜ Puts out at r (replicate (463 - n) 0x20) ⌝ }
 {
     let blanks = [0x20u8; 463];
     put_text(out, at, &blanks[n..])
@@ -81,7 +82,7 @@ fn put_fill(n: usize, out: &mut [u8], at: usize) -> usize
 fn put_header(name: &[u8], threads: &[u8], out: &mut [u8], at: usize) -> usize
     requires { ⌜ length (now threads) ≤ 765 ⌝ }
     requires { ⌜ at + 512 ≤ length (now out) ⌝ }
-    ensures { λ r. ⌜ Put (now (out .entry)) (now (out .exit)) at r (pecHeader (now (name .entry)) (threadsOf (now (threads .entry)))) ⌝ }
+    ensures { λ r. ⌜ Puts out at r (pecHeader (was name) (threadsOf (was threads))) ⌝ }
 {
     let colors = put_label(name, out, at);
     let fill = put_colors(threads, out, colors);
@@ -92,7 +93,7 @@ fn put_header(name: &[u8], threads: &[u8], out: &mut [u8], at: usize) -> usize
 fn put_sizes(n: usize, w: u32, h: u32, out: &mut [u8], at: usize) -> usize
     requires { ⌜ n ≤ 1000000 ⌝ }
     requires { ⌜ at + 16 ≤ length (now out) ⌝ }
-    ensures { λ r. ⌜ Put (now (out .entry)) (now (out .exit)) at r (sizesText n w h) ⌝ }
+    ensures { λ r. ⌜ Puts out at r (sizesText n w h) ⌝ }
 {
     let long = put2(out, at, 0x00, 0x00);
     let mark = put_three(out, long, (16 + n) as u32);
@@ -119,7 +120,7 @@ pub fn write_pec(
     requires { ⌜ (length (now kinds) ≤ 65535) × ((length (now threads) ≤ 765) × (stepTooLong Pec (commands (now xs) (now ys) (now kinds)) ≡ false)) ⌝ }
     requires { ⌜ n ≡ length (pecStitches pecStart (pos 0) (pos 0) (commands (now xs) (now ys) (now kinds))) ⌝ }
     requires { ⌜ at + length (pecPart (now name) (commands (now xs) (now ys) (now kinds)) (threadsOf (now threads))) ≤ length (now out) ⌝ }
-    ensures { λ r. ⌜ Put (now (out .entry)) (now (out .exit)) at r (pecPart (now (name .entry)) (commands (now (xs .entry)) (now (ys .entry)) (now (kinds .entry))) (threadsOf (now (threads .entry)))) ⌝ }
+    ensures { λ r. ⌜ Puts out at r (pecPart (was name) (commands (was xs) (was ys) (was kinds)) (threadsOf (was threads))) ⌝ }
 {
     let w = spread(b.min.x, b.max.x);
     let h = spread(b.min.y, b.max.y);
@@ -133,7 +134,7 @@ pub fn write_pec(
 pub fn part_len(xs: &[i32], ys: &[i32], kinds: &[u8], threads: &[u8], n: usize) -> usize
     requires { ⌜ (length (now kinds) ≤ 65535) × (length (now threads) ≤ 765) ⌝ }
     requires { ⌜ n ≡ length (pecStitches pecStart (pos 0) (pos 0) (commands (now xs) (now ys) (now kinds))) ⌝ }
-    ensures { λ r. ⌜ partLong (threadsOf (now (threads .entry))) (commands (now (xs .entry)) (now (ys .entry)) (now (kinds .entry))) r ⌝ }
+    ensures { λ r. ⌜ partLong (threadsOf (was threads)) (commands (was xs) (was ys) (was kinds)) r ⌝ }
 {
     528 + n + 228 * (2 + color_changes(xs, ys, kinds))
 }

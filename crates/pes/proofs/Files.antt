@@ -17,8 +17,8 @@ use Rattle.laws.specs.Buffers.{Put, put-length}
 use Rattle.laws.specs.Lengths.{joined-append, length-shorts, length-sections, length-log, blocks-length, middle-length, pes-length}
 use Rattle.laws.specs.Listing.{length-commands}
 use Rattle.laws.specs.Little.{length-little}
-use Rattle.sections.specs.States.{measures}
-use Rattle.sections.specs.declared.Sizes.{Sizes}
+use Rattle.pes_sections.specs.States.{measures}
+use Rattle.pes_sections.specs.declared.Sizes.{Sizes}
 use Rattle.pes.specs.Lists.{startParts, startText}
 
 -- PES takes the steps that PEC takes

@@ -1,7 +1,5 @@
 // PEC and PES files.
 // A port of src/formats/pes.rs of zigzag, changed.
-use checks::check_list;
-use codes::thread_codes;
 use emit::put_short;
 use emit::put_text;
 use emit::put_word;
@@ -10,14 +8,16 @@ use geom::Bounds;
 use pec::pec_len;
 use pec_part::part_len;
 use pec_part::write_pec;
+use pec_threads::thread_codes;
 use pes_blocks::blocks_len;
 use pes_blocks::write_pes_blocks;
+use pes_sections::Sizes;
+use pes_sections::measured;
 use rules::Format;
 use rules::Refusal;
 use rules::Verdict;
 use rules::WriteAnswer;
-use sections::Sizes;
-use sections::measured;
+use write_refusals::check_list;
 ghost use mathlib.Core.Path.{_≡_};
 ghost use mathlib.Core.Bool.{false};
 ghost use Prim.Native.Nat.{_+_, _≤_};
@@ -27,13 +27,14 @@ ghost use Rattle.rules.specs.Lists.{commands, threadsOf};
 ghost use Rattle.rules.specs.Pec.{pecFile};
 ghost use Rattle.rules.specs.Pes.{pesFile};
 ghost use Rattle.rules.specs.Refusals.{placeOutside, stepTooLong};
+ghost use Rattle.rules.specs.Promises.{was, left};
 ghost use Rattle.rules.specs.declared.Extension.the-variants.{Of};
 ghost use Rattle.rules.specs.declared.Format.the-variants.{Pes, Pec};
-ghost use Rattle.laws.specs.Buffers.{Put};
+ghost use Rattle.laws.specs.Buffers.{Puts};
 ghost use Rattle.geom.specs.Frames.{boundsOf};
-ghost use Rattle.codes.specs.Codes.{Coded};
+ghost use Rattle.pec_threads.specs.Codes.{Coded};
 ghost use Rattle.emit.specs.Answered.{Answered};
-ghost use Rattle.sections.specs.States.{measures};
+ghost use Rattle.pes_sections.specs.States.{measures};
 ghost use Rattle.pes.specs.Lists.{Drawn, startText};
 
 // A whole PEC file; n is how many bytes the stitches take.
@@ -50,7 +51,7 @@ fn put_pec_file(
     requires { ⌜ b ≡ boundsOf (commands (now xs) (now ys) (now kinds)) ⌝ }
     requires { ⌜ Drawn (commands (now xs) (now ys) (now kinds)) (now kinds) (now threads) n ⌝ }
     requires { ⌜ length (pecFile (now name) (commands (now xs) (now ys) (now kinds)) (threadsOf (now threads))) ≤ length (now out) ⌝ }
-    ensures { λ r. ⌜ Put (now (out .entry)) (now (out .exit)) 0 r (pecFile (now (name .entry)) (commands (now (xs .entry)) (now (ys .entry)) (now (kinds .entry))) (threadsOf (now (threads .entry)))) ⌝ }
+    ensures { λ r. ⌜ Puts out 0 r (pecFile (was name) (commands (was xs) (was ys) (was kinds)) (threadsOf (was threads))) ⌝ }
 {
     let part = put_text(out, 0, b"#PEC0001");
     write_pec(b, name, xs, ys, kinds, threads, n, out, part)
@@ -66,7 +67,7 @@ fn pec_accepted(
     out: &mut [u8],
 ) -> WriteAnswer
     requires { ⌜ (length (now kinds) ≤ 65535) × ((length (now threads) ≤ 765) × (stepTooLong Pec (commands (now xs) (now ys) (now kinds)) ≡ false)) ⌝ }
-    ensures { λ r. ⌜ Answered (pecFile (now (name .entry)) (commands (now (xs .entry)) (now (ys .entry)) (now (kinds .entry))) (threadsOf (now (threads .entry)))) (now (out .entry)) (now (out .exit)) r ⌝ }
+    ensures { λ r. ⌜ Answered (pecFile (was name) (commands (was xs) (was ys) (was kinds)) (threadsOf (was threads))) (was out) (left out) r ⌝ }
 {
     let n = pec_len(xs, ys, kinds);
     let long = 8 + part_len(xs, ys, kinds, threads, n);
@@ -86,8 +87,8 @@ pub fn write_pec_file(
     threads: &[u8],
     out: &mut [u8],
 ) -> WriteAnswer
-    ensures { λ r. ⌜ r ≡ writeAnswer (writeVerdict (Of Pec) (now (name .entry)) (now (xs .entry)) (now (ys .entry)) (now (kinds .entry)) (now (threads .entry)) (length (now (out .entry)))) (length (fileOf Pec (now (name .entry)) (commands (now (xs .entry)) (now (ys .entry)) (now (kinds .entry))) (now (threads .entry)))) ⌝ }
-    ensures { λ _. ⌜ now (out .exit) ≡ filled (writeVerdict (Of Pec) (now (name .entry)) (now (xs .entry)) (now (ys .entry)) (now (kinds .entry)) (now (threads .entry)) (length (now (out .entry)))) (fileOf Pec (now (name .entry)) (commands (now (xs .entry)) (now (ys .entry)) (now (kinds .entry))) (now (threads .entry))) (now (out .entry)) ⌝ }
+    ensures { λ r. ⌜ r ≡ writeAnswer (writeVerdict (Of Pec) (was name) (was xs) (was ys) (was kinds) (was threads) (length (was out))) (length (fileOf Pec (was name) (commands (was xs) (was ys) (was kinds)) (was threads))) ⌝ }
+    ensures { λ _. ⌜ left out ≡ filled (writeVerdict (Of Pec) (was name) (was xs) (was ys) (was kinds) (was threads) (length (was out))) (fileOf Pec (was name) (commands (was xs) (was ys) (was kinds)) (was threads)) (was out) ⌝ }
 {
     let checked = check_list(Format::Pec, xs, ys, kinds, threads);
     match checked {
@@ -99,7 +100,7 @@ pub fn write_pec_file(
 // The signature, the start of the PEC part, 1, 1, 1, 0xFFFF, 0.
 fn put_start(start: u32, out: &mut [u8]) -> usize
     requires { ⌜ 22 ≤ length (now out) ⌝ }
-    ensures { λ r. ⌜ Put (now (out .entry)) (now (out .exit)) 0 r (startText start) ⌝ }
+    ensures { λ r. ⌜ Puts out 0 r (startText start) ⌝ }
 {
     let word = put_text(out, 0, b"#PES0001");
     let first = put_word(out, word, start);
@@ -128,7 +129,7 @@ fn put_pes_file(
     requires { ⌜ Drawn (commands (now xs) (now ys) (now kinds)) (now kinds) (now threads) n ⌝ }
     requires { ⌜ (placeOutside (commands (now xs) (now ys) (now kinds)) ≡ false) × ((measures (threadsOf (now threads)) (commands (now xs) (now ys) (now kinds)) z) × ((z .bytes ≤ 1048560) × (z .logged ≤ 65535))) ⌝ }
     requires { ⌜ length (pesFile (now name) (commands (now xs) (now ys) (now kinds)) (threadsOf (now threads))) ≤ length (now out) ⌝ }
-    ensures { λ r. ⌜ Put (now (out .entry)) (now (out .exit)) 0 r (pesFile (now (name .entry)) (commands (now (xs .entry)) (now (ys .entry)) (now (kinds .entry))) (threadsOf (now (threads .entry)))) ⌝ }
+    ensures { λ r. ⌜ Puts out 0 r (pesFile (was name) (commands (was xs) (was ys) (was kinds)) (threadsOf (was threads))) ⌝ }
 {
     let long = blocks_len(z);
     let blocks = put_start((22 + long) as u32, out);
@@ -147,7 +148,7 @@ fn pes_accepted(
 ) -> WriteAnswer
     requires { ⌜ (length (now kinds) ≤ 65535) × ((length (now threads) ≤ 765) × (stepTooLong Pes (commands (now xs) (now ys) (now kinds)) ≡ false)) ⌝ }
     requires { ⌜ placeOutside (commands (now xs) (now ys) (now kinds)) ≡ false ⌝ }
-    ensures { λ r. ⌜ Answered (pesFile (now (name .entry)) (commands (now (xs .entry)) (now (ys .entry)) (now (kinds .entry))) (threadsOf (now (threads .entry)))) (now (out .entry)) (now (out .exit)) r ⌝ }
+    ensures { λ r. ⌜ Answered (pesFile (was name) (commands (was xs) (was ys) (was kinds)) (threadsOf (was threads))) (was out) (left out) r ⌝ }
 {
     let codes = thread_codes(threads);
     let z = measured(&codes, threads, xs, ys, kinds);
@@ -169,8 +170,8 @@ pub fn pes_from_stream(
     threads: &[u8],
     out: &mut [u8],
 ) -> WriteAnswer
-    ensures { λ r. ⌜ r ≡ writeAnswer (writeVerdict (Of Pes) (now (name .entry)) (now (xs .entry)) (now (ys .entry)) (now (kinds .entry)) (now (threads .entry)) (length (now (out .entry)))) (length (fileOf Pes (now (name .entry)) (commands (now (xs .entry)) (now (ys .entry)) (now (kinds .entry))) (now (threads .entry)))) ⌝ }
-    ensures { λ _. ⌜ now (out .exit) ≡ filled (writeVerdict (Of Pes) (now (name .entry)) (now (xs .entry)) (now (ys .entry)) (now (kinds .entry)) (now (threads .entry)) (length (now (out .entry)))) (fileOf Pes (now (name .entry)) (commands (now (xs .entry)) (now (ys .entry)) (now (kinds .entry))) (now (threads .entry))) (now (out .entry)) ⌝ }
+    ensures { λ r. ⌜ r ≡ writeAnswer (writeVerdict (Of Pes) (was name) (was xs) (was ys) (was kinds) (was threads) (length (was out))) (length (fileOf Pes (was name) (commands (was xs) (was ys) (was kinds)) (was threads))) ⌝ }
+    ensures { λ _. ⌜ left out ≡ filled (writeVerdict (Of Pes) (was name) (was xs) (was ys) (was kinds) (was threads) (length (was out))) (fileOf Pes (was name) (commands (was xs) (was ys) (was kinds)) (was threads)) (was out) ⌝ }
 {
     let checked = check_list(Format::Pes, xs, ys, kinds, threads);
     match checked {

@@ -1,4 +1,5 @@
--- The matrix fields are exact: for every whole z up to 2 ^ 24 either way the f32 nearest to z / 2 is z / 2 itself, and so are both fields that a width and
+-- The matrix fields are exact: for every whole z up to 2 ^ 24 either way the f32 nearest to z / 2 is z / 2 itself, and so are both fields
+-- that a width and
 -- a height up to 32000 give. `HasValue x s a c` says that the float x is a / c, below 0 where s is true. Assumes nothing.
 use Prim.Native.Nat.{ℕ, suc, _+_, _^_, _≤_, _<_}
 use mathlib.Core.Path.{_≡_, refl, sym, subst}

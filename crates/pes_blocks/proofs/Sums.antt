@@ -1,4 +1,5 @@
--- The sums that the Rust works out in f64 and turns into f32, 350 + 1300 / 2 - width / 2 and 100 + height + 1800 / 2 - height / 2, are the matrix fields for
+-- The sums that the Rust works out in f64 and turns into f32, 350 + 1300 / 2 - width / 2 and 100 + height + 1800 / 2 - height / 2, are
+-- the matrix fields for
 -- every width and height up to 32000: no operation of theirs rounds. Assumes nothing.
 use Prim.Native.Nat.{ℕ, suc, _+_, _-_, _*_, _^_, _≤_, _<_}
 use mathlib.Core.Path.{_≡_, refl, sym, ap, _∙_, subst}
@@ -68,7 +69,8 @@ over-two nan n h = absurd h
 over-two (inf s) n h = absurd h
 over-two (fin s m e) n h =
     rw (h .0)
-    (round-same binary64 false (m * up e * 1) (2 * down e) n 2 (mul-pos (lit< tt) (down-pos e)) (lit< tt) (ap (λ (k : ℕ). k * 2) (h .1) ∙ mul-right-comm n (down e) 2 ∙ mul-assoc n 2 (down e)))
+    (round-same binary64 false (m * up e * 1) (2 * down e) n 2 (mul-pos (lit< tt) (down-pos e)) (lit< tt)
+    (ap (λ (k : ℕ). k * 2) (h .1) ∙ mul-right-comm n (down e) 2 ∙ mul-assoc n 2 (down e)))
 
 half-value : (n : ℕ) → n < 2 ^ 53 → HasValue (div binary64 (whole n) (whole 2)) false n 2
 half-value n h = rw two-is (by-value false n h (over-two (whole n) n (whole-value n h)))
@@ -104,19 +106,22 @@ plus-is : (x y : Float) (a b : ℕ) → HasValue x false a 2 → HasValue y fals
 unfolding add
 plus-is (fin s m e) (fin t n d) a b h l =
     rw (h .0, l .0)
-    (sum-is (m * up e * down d) (n * up d * down e) (down e * down d) a b (grown (m * up e) a (down e) (down d) (h .1)) (turned (n * up d) b (down d) (down e) (l .1)) (mul-pos (down-pos e) (down-pos d)))
+    (sum-is (m * up e * down d) (n * up d * down e) (down e * down d) a b (grown (m * up e) a (down e) (down d) (h .1)) (turned (n * up d) b (down d) (down e) (l .1))
+    (mul-pos (down-pos e) (down-pos d)))
 
 minus-is : (x y : Float) (a b k : ℕ) → HasValue x false a 2 → HasValue y false b 2 → a ≡ k + b → sub binary64 x y ≡ round binary64 false k 2
 unfolding sub add neg
 minus-is (fin s m e) (fin t n d) a b k h l g =
     rw (h .0, l .0)
-    (more-is (m * up e * down d) (n * up d * down e) (down e * down d) a b (grown (m * up e) a (down e) (down d) (h .1)) (turned (n * up d) b (down d) (down e) (l .1)) (mul-pos (down-pos e) (down-pos d)) k g)
+    (more-is (m * up e * down d) (n * up d * down e) (down e * down d) a b (grown (m * up e) a (down e) (down d) (h .1)) (turned (n * up d) b (down d) (down e) (l .1))
+    (mul-pos (down-pos e) (down-pos d)) k g)
 
 short-is : (x y : Float) (a b k : ℕ) → HasValue x false a 2 → HasValue y false b 2 → b ≡ suc k + a → sub binary64 x y ≡ round binary64 true (suc k) 2
 unfolding sub add neg
 short-is (fin s m e) (fin t n d) a b k h l g =
     rw (h .0, l .0)
-    (less-is (m * up e * down d) (n * up d * down e) (down e * down d) a b (grown (m * up e) a (down e) (down d) (h .1)) (turned (n * up d) b (down d) (down e) (l .1)) (mul-pos (down-pos e) (down-pos d)) k g)
+    (less-is (m * up e * down d) (n * up d * down e) (down e * down d) a b (grown (m * up e) a (down e) (down d) (h .1)) (turned (n * up d) b (down d) (down e) (l .1))
+    (mul-pos (down-pos e) (down-pos d)) k g)
 
 plus-value : (x y : Float) (a b : ℕ) → a + b < 2 ^ 53 → HasValue x false a 2 → HasValue y false b 2 → HasValue (add binary64 x y) false (a + b) 2
 plus-value x y a b h p q = by-value false (a + b) h (plus-is x y a b p q)

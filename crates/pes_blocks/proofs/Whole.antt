@@ -21,8 +21,8 @@ use Rattle.laws.specs.Little.{length-little}
 use Rattle.laws.specs.Places.{Small, apart, every, small-minX, small-maxY}
 use Rattle.geom.specs.Frames.{boundsOf}
 use Rattle.geom.specs.declared.Bounds.{Bounds}
-use Rattle.pes_cmd.specs.States.{Near}
-use Rattle.sections.specs.States.{placed}
+use Rattle.pes_section_cmd.specs.States.{Near}
+use Rattle.pes_sections.specs.States.{placed}
 use Rattle.pes_blocks.specs.Parts.{embText, matrixText, sizesText, segText, frameText, endText}
 
 -- ---- lengths

@@ -6,9 +6,9 @@ use emit::put_times;
 use emit::put_word;
 use emit::spread;
 use geom::Bounds;
-use sections::Sizes;
-use sections::put_log;
-use sections::put_sections;
+use pes_sections::Sizes;
+use pes_sections::put_log;
+use pes_sections::put_sections;
 ghost use mathlib.Core.Path.{_≡_};
 ghost use mathlib.Core.Bool.{false};
 ghost use Prim.Native.Nat.{_+_, _*_, _≤_};
@@ -17,10 +17,11 @@ ghost use lib.ListN.{length};
 ghost use Rattle.rules.specs.Lists.{commands, threadsOf};
 ghost use Rattle.rules.specs.Pes.{halves, matrixField, pesBlocks};
 ghost use Rattle.rules.specs.Refusals.{placeOutside};
-ghost use Rattle.laws.specs.Buffers.{Put};
+ghost use Rattle.rules.specs.Promises.{was};
+ghost use Rattle.laws.specs.Buffers.{Puts};
 ghost use Rattle.geom.specs.Frames.{boundsOf};
-ghost use Rattle.codes.specs.Codes.{Coded};
-ghost use Rattle.sections.specs.States.{measures};
+ghost use Rattle.pec_threads.specs.Codes.{Coded};
+ghost use Rattle.pes_sections.specs.States.{measures};
 ghost use Rattle.pes_blocks.specs.Parts.{embText, matrixText, sizesText, segText, frameText, endText};
 
 // Half of a whole number: exact.
@@ -35,7 +36,7 @@ fn half(z: i32) -> f32
 fn put_field(z: i32, out: &mut [u8], at: usize) -> usize
     requires { ⌜ natAbs z ≤ 16777216 ⌝ }
     requires { ⌜ at + 4 ≤ length (now out) ⌝ }
-    ensures { λ r. ⌜ Put (now (out .entry)) (now (out .exit)) at r (matrixField z) ⌝ }
+    ensures { λ r. ⌜ Puts out at r (matrixField z) ⌝ }
 {
     put_word(out, at, f32::to_bits(half(z)))
 }
@@ -44,7 +45,7 @@ fn put_field(z: i32, out: &mut [u8], at: usize) -> usize
 fn put_matrix(w: u32, h: u32, out: &mut [u8], at: usize) -> usize
     requires { ⌜ (w ≤ 32000) × (h ≤ 32000) ⌝ }
     requires { ⌜ at + 24 ≤ length (now out) ⌝ }
-    ensures { λ r. ⌜ Put (now (out .entry)) (now (out .exit)) at r (matrixText w h) ⌝ }
+    ensures { λ r. ⌜ Puts out at r (matrixText w h) ⌝ }
 {
     let second = put_field(2, out, at);
     let third = put_field(0, out, second);
@@ -57,7 +58,7 @@ fn put_matrix(w: u32, h: u32, out: &mut [u8], at: usize) -> usize
 // "CEmbOne" and eight zeros.
 fn put_emb(out: &mut [u8], at: usize) -> usize
     requires { ⌜ at + 25 ≤ length (now out) ⌝ }
-    ensures { λ r. ⌜ Put (now (out .entry)) (now (out .exit)) at r embText ⌝ }
+    ensures { λ r. ⌜ Puts out at r embText ⌝ }
 {
     let text = put_short(out, at, 7);
     let zeros = put_text(out, text, b"CEmbOne");
@@ -67,7 +68,7 @@ fn put_emb(out: &mut [u8], at: usize) -> usize
 // 1, 0, 0, the width, the height, eight bytes 0.
 fn put_sizes(w: usize, h: usize, out: &mut [u8], at: usize) -> usize
     requires { ⌜ at + 18 ≤ length (now out) ⌝ }
-    ensures { λ r. ⌜ Put (now (out .entry)) (now (out .exit)) at r (sizesText w h) ⌝ }
+    ensures { λ r. ⌜ Puts out at r (sizesText w h) ⌝ }
 {
     let second = put_short(out, at, 1);
     let third = put_short(out, second, 0);
@@ -80,7 +81,7 @@ fn put_sizes(w: usize, h: usize, out: &mut [u8], at: usize) -> usize
 // How many sections, 0xFFFF, 0, "CSewSeg".
 fn put_seg(n: usize, out: &mut [u8], at: usize) -> usize
     requires { ⌜ at + 15 ≤ length (now out) ⌝ }
-    ensures { λ r. ⌜ Put (now (out .entry)) (now (out .exit)) at r (segText n) ⌝ }
+    ensures { λ r. ⌜ Puts out at r (segText n) ⌝ }
 {
     let second = put_short(out, at, n);
     let third = put_short(out, second, 0xFFFF);
@@ -93,7 +94,7 @@ fn put_seg(n: usize, out: &mut [u8], at: usize) -> usize
 fn put_frame(w: u32, h: u32, n: usize, out: &mut [u8], at: usize) -> usize
     requires { ⌜ (w ≤ 32000) × (h ≤ 32000) ⌝ }
     requires { ⌜ at + 82 ≤ length (now out) ⌝ }
-    ensures { λ r. ⌜ Put (now (out .entry)) (now (out .exit)) at r (frameText w h n) ⌝ }
+    ensures { λ r. ⌜ Puts out at r (frameText w h n) ⌝ }
 {
     let matrix = put_emb(out, at);
     let sizes = put_matrix(w, h, out, matrix);
@@ -115,7 +116,7 @@ fn put_end(
     requires { ⌜ Coded (threadsOf (now threads)) (now codes) ⌝ }
     requires { ⌜ length (now kinds) ≤ 65535 ⌝ }
     requires { ⌜ at + length (endText n (threadsOf (now threads)) (commands (now xs) (now ys) (now kinds))) ≤ length (now out) ⌝ }
-    ensures { λ r. ⌜ Put (now (out .entry)) (now (out .exit)) at r (endText n (threadsOf (now (threads .entry))) (commands (now (xs .entry)) (now (ys .entry)) (now (kinds .entry)))) ⌝ }
+    ensures { λ r. ⌜ Puts out at r (endText n (threadsOf (was threads)) (commands (was xs) (was ys) (was kinds))) ⌝ }
 {
     let log = put_short(out, at, n);
     let zeros = put_log(codes, threads, xs, ys, kinds, out, log);
@@ -147,7 +148,7 @@ pub fn write_pes_blocks(
     requires { ⌜ (length (now kinds) ≤ 65535) × (placeOutside (commands (now xs) (now ys) (now kinds)) ≡ false) ⌝ }
     requires { ⌜ measures (threadsOf (now threads)) (commands (now xs) (now ys) (now kinds)) z ⌝ }
     requires { ⌜ at + length (pesBlocks (commands (now xs) (now ys) (now kinds)) (threadsOf (now threads))) ≤ length (now out) ⌝ }
-    ensures { λ r. ⌜ Put (now (out .entry)) (now (out .exit)) at r (pesBlocks (commands (now (xs .entry)) (now (ys .entry)) (now (kinds .entry))) (threadsOf (now (threads .entry)))) ⌝ }
+    ensures { λ r. ⌜ Puts out at r (pesBlocks (commands (was xs) (was ys) (was kinds)) (threadsOf (was threads))) ⌝ }
 {
     let w = spread(b.min.x, b.max.x);
     let h = spread(b.min.y, b.max.y);

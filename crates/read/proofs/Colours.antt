@@ -9,15 +9,15 @@ use lib.ListN.{length, take, getD, List·getD-eq-default}
 use lib.Seq.{getD-take, length-take-le}
 use Rattle.rules.specs.Answers.{blocks, blockOf, pointsAfter, begunAfter}
 use Rattle.rules.specs.Files.{orDefault}
-use Rattle.records.specs.Firsts.{firstOf}
+use Rattle.read_records.specs.Firsts.{firstOf}
 use Rattle.rules.specs.Records.{Event, stitch, jump, change, events}
 use Rattle.rules.specs.declared.Format.{Format}
 use Rattle.rules.specs.declared.ReadAnswer.{ReadAnswer}
 use Rattle.rules.specs.declared.Slot.{Slot}
 use Rattle.rules.specs.declared.Slot.the-variants.{Empty, Thread}
-use Rattle.header.specs.Colors.{Held, Stored}
-use Rattle.builder.proofs.Colours.{cell}
-use Rattle.builder.specs.Colour.{colourIn}
+use Rattle.read_header.specs.Colors.{Held, Stored}
+use Rattle.read_builder.proofs.Colours.{cell}
+use Rattle.read_builder.specs.Colour.{colourIn}
 use Rattle.read.specs.Answered.{Answered}
 
 -- blocks ask for colours by number only

@@ -12,7 +12,7 @@ use lib.IntN.{ℤ, pos}
 use lib.Signed.{ltZ}
 use lib.ListN.{length, drop}
 use Rattle.rules.specs.Files.{eventsOf, placesOf, runsOf, blocksOf, colourOf, stored, orDefault, countsOf, fileRefusals, noRoom, readVerdict, readAnswer, filled}
-use Rattle.records.specs.Firsts.{firstOf}
+use Rattle.read_records.specs.Firsts.{firstOf}
 use Rattle.rules.specs.Text.{wordAt, begins}
 use Rattle.rules.specs.Pec.{pecEvents, pecColor, noCount}
 use Rattle.rules.specs.Pes.{partAt}
@@ -28,8 +28,8 @@ use Rattle.rules.specs.declared.Verdict.{Verdict}
 use Rattle.rules.specs.declared.Verdict.the-variants.{Accepted, Refused}
 use Rattle.laws.specs.Arms.{pes-pec}
 use Rattle.laws.specs.Verdicts.{first-false, verdict-on, verdict-stop}
-use Rattle.front.specs.Openings.{partStart, started, frontOf}
-use Rattle.front.specs.declared.Opening.the-variants.{At, Not}
+use Rattle.read_refusals.specs.Openings.{partStart, started, frontOf}
+use Rattle.read_refusals.specs.declared.Opening.the-variants.{At, Not}
 use Rattle.read.specs.Answered.{Opened, roomVerdict, Answered, FileAnswered}
 
 never : {n : ℕ} {r : Refusal} → At n ≡ Not r → ⊥

@@ -18,7 +18,7 @@ use Rattle.rules.specs.declared.Record.{Record}
 use Rattle.rules.specs.declared.Refusal.the-variants.{BufferTooShort}
 use Rattle.rules.specs.declared.Verdict.the-variants.{Accepted, Refused}
 use Rattle.laws.specs.Tests.{by-test, false-true, and-left, and-right}
-use Rattle.passes.specs.Told.{placesIn, runsIn, blocksIn, Told, Fits}
+use Rattle.read_passes.specs.Told.{placesIn, runsIn, blocksIn, Told, Fits}
 use Rattle.read.specs.Answered.{roomFor, roomVerdict, Given}
 
 -- refusal 11 does not hold

@@ -8,7 +8,7 @@ use lib.IntN.{ℤ}
 use lib.ListN.{length}
 use Rattle.rules.specs.Limits.{blockCells}
 use Rattle.rules.specs.Files.{placesOf, runsOf, blocksOf, fileRefusals, countsOf, readAnswer, filled}
-use Rattle.records.specs.Firsts.{firstOf}
+use Rattle.read_records.specs.Firsts.{firstOf}
 use Rattle.rules.specs.Refusals.{verdict}
 use Rattle.rules.specs.declared.Counts.{Counts}
 use Rattle.rules.specs.declared.Format.{Format}
@@ -16,8 +16,8 @@ use Rattle.rules.specs.declared.ReadAnswer.{ReadAnswer}
 use Rattle.rules.specs.declared.Refusal.the-variants.{BufferTooShort}
 use Rattle.rules.specs.declared.Verdict.{Verdict}
 use Rattle.rules.specs.declared.Verdict.the-variants.{Accepted}
-use Rattle.front.specs.Openings.{partStart}
-use Rattle.passes.specs.Told.{placesIn, runsIn, blocksIn}
+use Rattle.read_refusals.specs.Openings.{partStart}
+use Rattle.read_passes.specs.Told.{placesIn, runsIn, blocksIn}
 
 -- the file is not refused, and its part begins at start
 pub record Opened (f : Format) (s : List ℕ) (start : ℕ) : Type 0 where

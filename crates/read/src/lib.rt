@@ -1,17 +1,17 @@
 // Reading: a file of any of the five formats, into three lent buffers.
 // A port of src/formats/read.rs of zigzag, changed.
 use formats::extension_of;
-use front::Opening;
-use front::front;
-use header::Word;
-use header::dst_colors;
-use header::i32le;
-use header::jef_colors;
-use header::part;
-use header::pec_colors;
-use passes::ample;
-use passes::count;
-use passes::fill;
+use read_header::Word;
+use read_header::dst_colors;
+use read_header::i32le;
+use read_header::jef_colors;
+use read_header::part;
+use read_header::pec_colors;
+use read_passes::ample;
+use read_passes::count;
+use read_passes::fill;
+use read_refusals::Opening;
+use read_refusals::front;
 use rules::BLOCK_CELLS;
 use rules::Counts;
 use rules::DST_HEADER;
@@ -27,9 +27,10 @@ ghost use Rattle.rules.specs.Files.{orDefault, placesOf, runsOf, blocksOf, plac
 ghost use Rattle.rules.specs.Pec.{pecColor};
 ghost use Rattle.rules.specs.Jef.{jefRecords};
 ghost use Rattle.rules.specs.Refusals.{extensionOf};
+ghost use Rattle.rules.specs.Promises.{was, left};
 ghost use Rattle.rules.specs.declared.Extension.the-variants.{Of};
 ghost use Rattle.rules.specs.declared.Format.the-variants.{Pec, Dst, Exp, Jef};
-ghost use Rattle.builder.specs.Colour.{colourIn};
+ghost use Rattle.read_builder.specs.Colour.{colourIn};
 ghost use Rattle.read.specs.Answered.{Answered, FileAnswered, Opened, roomFor};
 
 // Whether the answers fit: refusal 11 if not.
@@ -55,7 +56,7 @@ fn read_records(
     blocks: &mut [u32],
 ) -> ReadAnswer
     requires { ⌜ length (now bytes) ≤ 2097152 ⌝ }
-    ensures { λ r. ⌜ Answered (colourIn (now (colors .entry))) f (now (bytes .entry)) (now (places .entry)) (now (places .exit)) (now (runs .entry)) (now (runs .exit)) (now (blocks .entry)) (now (blocks .exit)) r ⌝ }
+    ensures { λ r. ⌜ Answered (colourIn (was colors)) f (was bytes) (was places) (left places) (was runs) (left runs) (was blocks) (left blocks) r ⌝ }
 {
     if ample(bytes.len(), places.len(), runs.len(), blocks.len()) {
         return ReadAnswer::Read(fill(f, bytes, colors, places, runs, blocks));
@@ -69,7 +70,7 @@ fn read_records(
 
 // The bytes from a place on.
 fn rest(file: &[u8], from: usize) -> &[u8]
-    ensures { λ r. ⌜ now r ≡ drop from (now (file .entry)) ⌝ }
+    ensures { λ r. ⌜ now r ≡ drop from (was file) ⌝ }
 {
     part(file, from, file.len())
 }
@@ -83,7 +84,7 @@ fn read_pec(
     blocks: &mut [u32],
 ) -> ReadAnswer
     requires { ⌜ (length (now file) ≤ 2097152) × (start < length (now file)) ⌝ }
-    ensures { λ r. ⌜ Answered (λ k. orDefault (pecColor start (now (file .entry)) k) k) Pec (drop (start + 528) (now (file .entry))) (now (places .entry)) (now (places .exit)) (now (runs .entry)) (now (runs .exit)) (now (blocks .entry)) (now (blocks .exit)) r ⌝ }
+    ensures { λ r. ⌜ Answered (λ k. orDefault (pecColor start (was file) k) k) Pec (drop (start + 528) (was file)) (was places) (left places) (was runs) (left runs) (was blocks) (left blocks) r ⌝ }
 {
     let mut colors = [0u32; 256];
     let n = pec_colors(file, start, &mut colors);
@@ -99,7 +100,7 @@ fn read_pec(
 
 fn read_dst(file: &[u8], places: &mut [i32], runs: &mut [u32], blocks: &mut [u32]) -> ReadAnswer
     requires { ⌜ length (now file) ≤ 2097152 ⌝ }
-    ensures { λ r. ⌜ FileAnswered Dst (now (file .entry)) (now (places .entry)) (now (places .exit)) (now (runs .entry)) (now (runs .exit)) (now (blocks .entry)) (now (blocks .exit)) r ⌝ }
+    ensures { λ r. ⌜ FileAnswered Dst (was file) (was places) (left places) (was runs) (left runs) (was blocks) (left blocks) r ⌝ }
 {
     let mut colors = [0u32; 256];
     let n = dst_colors(file, &mut colors);
@@ -116,7 +117,7 @@ fn read_dst(file: &[u8], places: &mut [i32], runs: &mut [u32], blocks: &mut [u32
 // EXP stores no colours.
 fn read_exp(file: &[u8], places: &mut [i32], runs: &mut [u32], blocks: &mut [u32]) -> ReadAnswer
     requires { ⌜ length (now file) ≤ 2097152 ⌝ }
-    ensures { λ r. ⌜ FileAnswered Exp (now (file .entry)) (now (places .entry)) (now (places .exit)) (now (runs .entry)) (now (runs .exit)) (now (blocks .entry)) (now (blocks .exit)) r ⌝ }
+    ensures { λ r. ⌜ FileAnswered Exp (was file) (was places) (left places) (was runs) (left runs) (was blocks) (left blocks) r ⌝ }
 {
     let none = [0u32; 1];
     read_records(Format::Exp, file, &none[..0], places, runs, blocks)
@@ -125,7 +126,7 @@ fn read_exp(file: &[u8], places: &mut [i32], runs: &mut [u32], blocks: &mut [u32
 // The stitches of a JEF file: from its offset on, none if that is below zero.
 fn jef_stitches(file: &[u8]) -> &[u8]
     requires { ⌜ 4 ≤ length (now file) ⌝ }
-    ensures { λ r. ⌜ now r ≡ jefRecords (now (file .entry)) ⌝ }
+    ensures { λ r. ⌜ now r ≡ jefRecords (was file) ⌝ }
 {
     let word = i32le(file, 0);
     let Word::Number(offset) = word else {
@@ -139,7 +140,7 @@ fn jef_stitches(file: &[u8]) -> &[u8]
 
 fn read_jef(file: &[u8], places: &mut [i32], runs: &mut [u32], blocks: &mut [u32]) -> ReadAnswer
     requires { ⌜ (length (now file) ≤ 2097152) × (4 ≤ length (now file)) ⌝ }
-    ensures { λ r. ⌜ FileAnswered Jef (now (file .entry)) (now (places .entry)) (now (places .exit)) (now (runs .entry)) (now (runs .exit)) (now (blocks .entry)) (now (blocks .exit)) r ⌝ }
+    ensures { λ r. ⌜ FileAnswered Jef (was file) (was places) (left places) (was runs) (left runs) (was blocks) (left blocks) r ⌝ }
 {
     let mut colors = [0u32; 256];
     let n = jef_colors(file, &mut colors);
@@ -163,7 +164,7 @@ fn read_part(
     blocks: &mut [u32],
 ) -> ReadAnswer
     requires { ⌜ Opened f (now file) start ⌝ }
-    ensures { λ r. ⌜ FileAnswered f (now (file .entry)) (now (places .entry)) (now (places .exit)) (now (runs .entry)) (now (runs .exit)) (now (blocks .entry)) (now (blocks .exit)) r ⌝ }
+    ensures { λ r. ⌜ FileAnswered f (was file) (was places) (left places) (was runs) (left runs) (was blocks) (left blocks) r ⌝ }
 {
     match f {
         Format::Pes | Format::Pec => read_pec(file, start, places, runs, blocks),
@@ -181,10 +182,10 @@ pub fn read_stitch_file(
     runs: &mut [u32],
     blocks: &mut [u32],
 ) -> ReadAnswer
-    ensures { λ r. ⌜ r ≡ readAnswer (readVerdict (Of f) (now (file .entry)) (length (now (places .entry))) (length (now (runs .entry))) (length (now (blocks .entry)))) (countsOf (placesOf f (now (file .entry))) (runsOf f (now (file .entry))) (blocksOf f (now (file .entry)))) ⌝ }
-    ensures { λ r. ⌜ now (places .exit) ≡ filled (readVerdict (Of f) (now (file .entry)) (length (now (places .entry))) (length (now (runs .entry))) (length (now (blocks .entry)))) (placesOf f (now (file .entry))) (now (places .entry)) ⌝ }
-    ensures { λ r. ⌜ now (runs .exit) ≡ filled (readVerdict (Of f) (now (file .entry)) (length (now (places .entry))) (length (now (runs .entry))) (length (now (blocks .entry)))) (runsOf f (now (file .entry))) (now (runs .entry)) ⌝ }
-    ensures { λ r. ⌜ now (blocks .exit) ≡ filled (readVerdict (Of f) (now (file .entry)) (length (now (places .entry))) (length (now (runs .entry))) (length (now (blocks .entry)))) (blocksOf f (now (file .entry))) (now (blocks .entry)) ⌝ }
+    ensures { λ r. ⌜ r ≡ readAnswer (readVerdict (Of f) (was file) (length (was places)) (length (was runs)) (length (was blocks))) (countsOf (placesOf f (was file)) (runsOf f (was file)) (blocksOf f (was file))) ⌝ }
+    ensures { λ r. ⌜ left places ≡ filled (readVerdict (Of f) (was file) (length (was places)) (length (was runs)) (length (was blocks))) (placesOf f (was file)) (was places) ⌝ }
+    ensures { λ r. ⌜ left runs ≡ filled (readVerdict (Of f) (was file) (length (was places)) (length (was runs)) (length (was blocks))) (runsOf f (was file)) (was runs) ⌝ }
+    ensures { λ r. ⌜ left blocks ≡ filled (readVerdict (Of f) (was file) (length (was places)) (length (was runs)) (length (was blocks))) (blocksOf f (was file)) (was blocks) ⌝ }
 {
     let found = front(f, file);
     match found {
@@ -201,10 +202,10 @@ pub fn read(
     runs: &mut [u32],
     blocks: &mut [u32],
 ) -> ReadAnswer
-    ensures { λ r. ⌜ r ≡ readAnswer (readVerdict (extensionOf (now (ext .entry))) (now (file .entry)) (length (now (places .entry))) (length (now (runs .entry))) (length (now (blocks .entry)))) (countsOf (placesTold (extensionOf (now (ext .entry))) (now (file .entry))) (runsTold (extensionOf (now (ext .entry))) (now (file .entry))) (blocksTold (extensionOf (now (ext .entry))) (now (file .entry)))) ⌝ }
-    ensures { λ r. ⌜ now (places .exit) ≡ filled (readVerdict (extensionOf (now (ext .entry))) (now (file .entry)) (length (now (places .entry))) (length (now (runs .entry))) (length (now (blocks .entry)))) (placesTold (extensionOf (now (ext .entry))) (now (file .entry))) (now (places .entry)) ⌝ }
-    ensures { λ r. ⌜ now (runs .exit) ≡ filled (readVerdict (extensionOf (now (ext .entry))) (now (file .entry)) (length (now (places .entry))) (length (now (runs .entry))) (length (now (blocks .entry)))) (runsTold (extensionOf (now (ext .entry))) (now (file .entry))) (now (runs .entry)) ⌝ }
-    ensures { λ r. ⌜ now (blocks .exit) ≡ filled (readVerdict (extensionOf (now (ext .entry))) (now (file .entry)) (length (now (places .entry))) (length (now (runs .entry))) (length (now (blocks .entry)))) (blocksTold (extensionOf (now (ext .entry))) (now (file .entry))) (now (blocks .entry)) ⌝ }
+    ensures { λ r. ⌜ r ≡ readAnswer (readVerdict (extensionOf (was ext)) (was file) (length (was places)) (length (was runs)) (length (was blocks))) (countsOf (placesTold (extensionOf (was ext)) (was file)) (runsTold (extensionOf (was ext)) (was file)) (blocksTold (extensionOf (was ext)) (was file))) ⌝ }
+    ensures { λ r. ⌜ left places ≡ filled (readVerdict (extensionOf (was ext)) (was file) (length (was places)) (length (was runs)) (length (was blocks))) (placesTold (extensionOf (was ext)) (was file)) (was places) ⌝ }
+    ensures { λ r. ⌜ left runs ≡ filled (readVerdict (extensionOf (was ext)) (was file) (length (was places)) (length (was runs)) (length (was blocks))) (runsTold (extensionOf (was ext)) (was file)) (was runs) ⌝ }
+    ensures { λ r. ⌜ left blocks ≡ filled (readVerdict (extensionOf (was ext)) (was file) (length (was places)) (length (was runs)) (length (was blocks))) (blocksTold (extensionOf (was ext)) (was file)) (was blocks) ⌝ }
 {
     let named = extension_of(ext);
     let Extension::Of(f) = named else {

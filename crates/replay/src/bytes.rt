@@ -1,5 +1,5 @@
 // Numbers in a case, the low byte first; what is past the end is 0.
-use header::part;
+use read_header::part;
 ghost use Prim.Native.Nat.{_<_};
 
 pub fn byte(s: &[u8], i: usize) -> u8 {

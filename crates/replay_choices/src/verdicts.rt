@@ -20,7 +20,7 @@ pub fn agrees(case: &[u8], what: u8) -> bool {
 }
 
 fn color(case: &[u8], at: usize) -> Color {
-    let three = header::part(case, at, 3);
+    let three = read_header::part(case, at, 3);
     Color(byte(three, 0), byte(three, 1), byte(three, 2))
 }
 
@@ -50,7 +50,7 @@ fn jef(case: &[u8]) -> bool {
     let mut i = 0;
     while i < n {
         let t = color(case, 2 + 3 * i);
-        let k = choices::jef_choice(last, t);
+        let k = jef_threads::jef_choice(last, t);
         if k != byte(case, 2 + 3 * n + i) as usize {
             return false;
         }

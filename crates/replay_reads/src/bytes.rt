@@ -1,5 +1,5 @@
 // Parts of a case.
-use header::part;
+use read_header::part;
 use replay::bytes::byte;
 
 // Red, green and blue as a number.

@@ -6,7 +6,7 @@ mod walk;
 
 use bytes::extension;
 use formats::extension_of;
-use header::part;
+use read_header::part;
 use replay::Outcome;
 use replay::count;
 use rules::Extension;

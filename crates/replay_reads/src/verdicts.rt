@@ -6,7 +6,7 @@ use super::buffers::places_stay;
 use super::bytes::extension;
 use super::walk::walked;
 use check::same;
-use header::part;
+use read_header::part;
 use replay::Outcome;
 use replay::bytes::byte;
 use replay::bytes::word;
@@ -28,7 +28,7 @@ fn unread(
     if told.len() != 1 {
         return false;
     }
-    if (byte(told, 0) as u32) != checks::number(why) {
+    if (byte(told, 0) as u32) != write_refusals::number(why) {
         return false;
     }
     if label.len() != 0 {
@@ -111,7 +111,7 @@ fn agrees(case: &[u8], places: &mut [i32], runs: &mut [u32], blocks: &mut [u32])
     let n = word(case, start);
     let file = part(case, start + 2, n);
     let told = part(case, start + 2 + n, 65536);
-    let label = front::label(ext, file);
+    let label = read_refusals::label(ext, file);
     let answer = read::read(ext, file, places, runs, blocks);
     match answer {
         ReadAnswer::Read(c) => read_same(told, label, c, places, runs, blocks),

@@ -1,5 +1,5 @@
 // Parts of a case.
-use header::part;
+use read_header::part;
 use replay::bytes::byte;
 use replay::bytes::word;
 ghost use Prim.Native.Nat.{_<_};

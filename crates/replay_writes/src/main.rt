@@ -3,7 +3,7 @@ mod buffers;
 mod bytes;
 mod verdicts;
 
-use header::part;
+use read_header::part;
 use replay::Outcome;
 use replay::bytes::byte;
 use replay::count;

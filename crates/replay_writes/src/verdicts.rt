@@ -9,7 +9,7 @@ use super::bytes::list_len;
 use super::bytes::name;
 use super::bytes::packed;
 use super::bytes::threads;
-use header::part;
+use read_header::part;
 use replay::Outcome;
 use replay::bytes::byte;
 use replay::packbits::opens_to;
@@ -63,7 +63,7 @@ fn refuses(case: &[u8], xs: &[i32], ys: &[i32], kinds: &[u8], out: &mut [u8]) ->
     let WriteAnswer::Unwritten(why) = answer else {
         return false;
     };
-    if checks::number(why) != 11 {
+    if write_refusals::number(why) != 11 {
         return false;
     }
     stays(out, 0)

@@ -1,6 +1,6 @@
 // Writes some lists in each format by `write_and_read` and prints what comes back: lengths, counts, label and points, or the refusal.
-use header::part;
 use libc::STDOUT_FILENO;
+use read_header::part;
 use rules::RoundTripAnswer;
 use stitch_box::label;
 use stitch_box::write_and_read;
@@ -41,10 +41,13 @@ fn cells(places: &[i32], n: usize) {
 fn show(ext: &[u8], file: &[u8], places: &[i32], answer: RoundTripAnswer) {
     text(ext);
     match answer {
-        RoundTripAnswer::NotWritten(why) => number(b": not written, ", checks::number(why) as u64),
+        RoundTripAnswer::NotWritten(why) => number(
+            b": not written, ",
+            write_refusals::number(why) as u64,
+        ),
         RoundTripAnswer::NotRead(len, why) => {
             number(b": written ", len as u64);
-            number(b", not read, ", checks::number(why) as u64);
+            number(b", not read, ", write_refusals::number(why) as u64);
         }
         RoundTripAnswer::ReadBack(len, c) => {
             number(b": written ", len as u64);

@@ -131,7 +131,8 @@ pesString bytes = little 2 (length bytes) ++ bytes
 unfoldable pub shorts : List ℕ → List ℕ
 shorts ns = joined (map (little 2) ns)
 
--- "CEmbOne", eight zeros, the matrix 1, 0, 0, 1, 1000 - width / 2, 1000 + height / 2, sizes, sections; "CSewSeg", the sections, the colour log
+-- "CEmbOne", eight zeros, the matrix 1, 0, 0, 1, 1000 - width / 2, 1000 + height / 2, sizes, sections; "CSewSeg", the sections, the
+-- colour log
 unfoldable pub pesBlocks : List Cmd → List Color → List ℕ
 pesBlocks cs threads =
     let log : List ℕ = colorLog threads 65 (pesStart threads) cs in

@@ -1,4 +1,5 @@
--- What the public calls promise, for every input: the answer, and the content of each buffer at exit, as equations with the definitions before.
+-- What the public calls promise, for every input: the answer, and the content of each buffer at exit, as equations with the definitions
+-- before.
 -- The same records are the contracts of the calls, of the C exports and what the theorems speak of.
 use Prim.Native.Nat.{ℕ, _+_, _≤_, min}
 use mathlib.Core.Path.{_≡_}
@@ -102,7 +103,8 @@ unfoldable pub verdictNumber : Verdict → ℕ
 verdictNumber Accepted = 0
 verdictNumber (Refused r) = numberOf r
 
--- A label stands in its file from a start on, for a length; under a refusal both are 0. Where an empty label stands is free, but it is in the file.
+-- A label stands in its file from a start on, for a length; under a refusal both are 0. Where an empty label stands is free, but it is in
+-- the file.
 abbrev pub LabelAt : Verdict → List ℕ → List ℕ → ℕ → ℕ → Type 0
 LabelAt Accepted file label start len = (start + len ≤ length file) × (take len (drop start file) ≡ label)
 LabelAt (Refused r) file label start len = (start ≡ 0) × (len ≡ 0)

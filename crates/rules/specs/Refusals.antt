@@ -14,7 +14,8 @@ use Rattle.rules.specs.declared.Format.{Format}
 use Rattle.rules.specs.declared.Extension.{Extension}
 use Rattle.rules.specs.declared.Extension.the-variants.{Of, Unknown}
 use Rattle.rules.specs.declared.Refusal.{Refusal}
-use Rattle.rules.specs.declared.Refusal.the-variants.{UnknownExtension, FileTooLong, NotPes, FileTooShort, StartBelowZero, BadList, PlaceOutside, TooMany, Moved, StepTooLong, BufferTooShort}
+use Rattle.rules.specs.declared.Refusal.the-variants.{UnknownExtension, FileTooLong, NotPes, FileTooShort, StartBelowZero, BadList, PlaceOutside, TooMany, Moved}
+use Rattle.rules.specs.declared.Refusal.the-variants.{StepTooLong, BufferTooShort}
 use Rattle.rules.specs.declared.Verdict.{Verdict}
 use Rattle.rules.specs.declared.Verdict.the-variants.{Accepted, Refused}
 

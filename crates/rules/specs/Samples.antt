@@ -5,7 +5,8 @@ use Prim.Native.Nat.{ℕ}
 use lib.IntN.{ℤ, pos, negℤ}
 use Rattle.rules.specs.Vocabulary.{signed, bitsOf, between, all, any, count, next, orElse, lastWhere}
 use Rattle.rules.specs.Lists.{opOf, commands, endsOnce, placed, samePlace, isChange, stands, anyFrom}
-use Rattle.rules.specs.Refusals.{numberOf, badList, outside, placeOutside, changes, tooMany, moves, moved, leastStep, greatestStep, stepIn, stepsPast, stepTooLong, verdict, listRefusals, listVerdict}
+use Rattle.rules.specs.Refusals.{numberOf, badList, outside, placeOutside, changes, tooMany, moves, moved, leastStep, greatestStep, stepIn, stepsPast, stepTooLong}
+use Rattle.rules.specs.Refusals.{verdict, listRefusals, listVerdict}
 use Rattle.rules.specs.Charts.{color, pecChart}
 use Rattle.rules.specs.Choices.{halfToEven, gap, weighed, distance, noNearer, nearest, nearestIndex, choices, pecPalette}
 use Rattle.rules.specs.Dst.{digit, rest, z27, z9, z3, z1, pair, dstBytes, dstCmd}
@@ -46,5 +47,8 @@ Hold [] = Unit {0}
 Hold (s ∷ ss) = (s .0 ≡ s .1) × Hold ss
 
 pub samples-hold : Hold samples
-unfolding refusedBy samples signed bitsOf between all any count next orElse lastWhere opOf commands endsOnce placed samePlace isChange stands anyFrom leastStep greatestStep stepIn numberOf badList outside placeOutside changes tooMany moves moved stepsPast stepTooLong verdict listRefusals listVerdict writeAnswer writeNumber pecChart halfToEven gap weighed distance noNearer nearest nearestIndex choices pecPalette digit rest z27 z9 z3 z1 pair dstBytes dstCmd wide pecValue pecStart pecCmd foundOr pairOf expCmd
+unfolding refusedBy samples signed bitsOf between all any count next orElse lastWhere opOf commands endsOnce placed samePlace isChange stands anyFrom leastStep
+    greatestStep stepIn numberOf badList outside placeOutside changes tooMany moves moved stepsPast stepTooLong verdict listRefusals listVerdict writeAnswer writeNumber
+    pecChart halfToEven gap weighed distance noNearer nearest nearestIndex choices pecPalette digit rest z27 z9 z3 z1 pair dstBytes dstCmd wide pecValue pecStart pecCmd
+    foundOr pairOf expCmd
 samples-hold = (refl, (refl, (refl, (refl, (refl, (refl, (refl, (refl, (refl, (refl, (refl, (refl, (refl, (refl, (refl, tt)))))))))))))))

@@ -7,21 +7,27 @@ use lib.Ieee.{add, sub, mul, div, neg, lt, ofInt, ofBits, round, toBits}
 use lib.ListN.{replicate}
 use Rattle.rules.specs.Answers.{pointsAfter, startOf, places, runOf, runs, blockOf, begunAfter, blocks, pointTotal, blockTotal, cuts}
 use Rattle.rules.specs.Charts.{pecChart, jefChart, blankIcon}
-use Rattle.rules.specs.Choices.{halfToEven, gap, weighed, distance, noNearer, nearest, nearestIndex, nearestFirst, choices, pecPalette, jefPalette, sameColor, entryOf, jefNearest, jefChoice, jefEntries}
-use Rattle.rules.specs.Dst.{bit, weigh, dstX, dstY, under, dstRecord, dstFirst, lastLabel, hexDigit, hexPair, hexColor, sixDigits, dropHashes, beforeComma, lineColor, addColor, lineColors, digit, rest, z27, z9, z3, z1, pair, dstBytes, dstCmd, line, signedRight, recordCount, dstText, dstFile}
+use Rattle.rules.specs.Choices.{halfToEven, gap, weighed, distance, noNearer, nearest, nearestIndex, nearestFirst, choices, pecPalette, jefPalette, sameColor}
+use Rattle.rules.specs.Choices.{entryOf, jefNearest, jefChoice, jefEntries}
+use Rattle.rules.specs.Dst.{bit, weigh, dstX, dstY, under, dstRecord, dstFirst, lastLabel, hexDigit, hexPair, hexColor, sixDigits, dropHashes, beforeComma}
+use Rattle.rules.specs.Dst.{lineColor, addColor, lineColors, digit, rest, z27, z9, z3, z1, pair, dstBytes, dstCmd, line, signedRight, recordCount, dstText, dstFile}
 use Rattle.rules.specs.Exp.{two, control, after80, pairFirst, pairOf, expCmd, expFile}
 use Rattle.rules.specs.Files.{fileOf, eventsOf, labelOf, stored, defaults, colorNumber, orDefault, colourOf, placesOf, runsOf, blocksOf, fileRefusals, noRoom, fileVerdict, readVerdict}
 use Rattle.rules.specs.Text.{wordAt, blank, trimStart, beforeEnd, trimEnd, trimmed, cutBefore, linesOf, begins}
 use Rattle.rules.specs.Layout.{slotAt}
 use Rattle.rules.specs.Jef.{jefRecords, jefCount, jefColor, jefCmd, word, pointsIn, pointCount, jefHoop, halfUp, edges, orOne, jefTable, words, jefHeader, jefFile}
-use Rattle.rules.specs.Lists.{opOf, commands, endsOnce, placed, samePlace, isChange, isTrim, stands, anyFrom, written, lastX, lastY, minZ, maxZ, leastFrom, greatestFrom, least, greatest, minX, minY, maxX, maxY, width, height, threadsOf, pecName, dstName}
-use Rattle.rules.specs.Pec.{longAxis, axisOf, afterAxis, bothAxes, starts, pecChange, pecFirst, pecEvents, pecLabel, pecColor, noCount, wide, pecValue, pecStart, pecNext, pause, pecCmd, pecStitches, distinct, give, givenTo, foundOr, uniquePalette, pecColors, pecHeader, pecBlock, pecPart, pecFile}
-use Rattle.rules.specs.Pes.{halves, matrixField, threadCode, runLength, runX, runY, pesStart, opens, pesNext, pesPoint, pesOpen, pesCmd, pesSections, sectionCount, opensSection, colorLog, pesString, shorts, pesBlocks, pesMiddle, pesFile, partAt}
+use Rattle.rules.specs.Lists.{opOf, commands, endsOnce, placed, samePlace, isChange, isTrim, stands, anyFrom, written, lastX, lastY, minZ, maxZ, leastFrom}
+use Rattle.rules.specs.Lists.{greatestFrom, least, greatest, minX, minY, maxX, maxY, width, height, threadsOf, pecName, dstName}
+use Rattle.rules.specs.Pec.{longAxis, axisOf, afterAxis, bothAxes, starts, pecChange, pecFirst, pecEvents, pecLabel, pecColor, noCount, wide, pecValue, pecStart}
+use Rattle.rules.specs.Pec.{pecNext, pause, pecCmd, pecStitches, distinct, give, givenTo, foundOr, uniquePalette, pecColors, pecHeader, pecBlock, pecPart, pecFile}
+use Rattle.rules.specs.Pes.{halves, matrixField, threadCode, runLength, runX, runY, pesStart, opens, pesNext, pesPoint, pesOpen, pesCmd, pesSections, sectionCount}
+use Rattle.rules.specs.Pes.{opensSection, colorLog, pesString, shorts, pesBlocks, pesMiddle, pesFile, partAt}
 use Rattle.rules.specs.Records.{recordThen, events}
 use Rattle.rules.specs.Refusals.{badList, outside, placeOutside, changes, tooMany, moves, moved, leastStep, greatestStep, stepIn, stepsPast, stepTooLong, verdict}
 use Rattle.rules.specs.Sewing.{Entry, entry, blockAfter, sewsCmd, sews, listSewing, sewsRun, runSewing, runsSewing, cells, fileSewing}
 use Rattle.rules.specs.Thumbnails.{atLeastOne, lesser, floorOf, within, pixel, painted, marked, drawn, atFront, colorBlocks, icons}
-use Rattle.rules.specs.Vocabulary.{between, all, any, count, keep, next, firstWhere, orElse, lastWhere, sameBytes, signed, bitsOf, little, fromLittle, joined, digitAt, right, padded, fuelled}
+use Rattle.rules.specs.Vocabulary.{between, all, any, count, keep, next, firstWhere, orElse, lastWhere, sameBytes, signed, bitsOf, little, fromLittle, joined}
+use Rattle.rules.specs.Vocabulary.{digitAt, right, padded, fuelled}
 use Rattle.rules.specs.declared.Cmd.{Cmd}
 use Rattle.rules.specs.declared.Extension.the-variants.{Of}
 use Rattle.rules.specs.declared.Format.the-variants.{Pes, Pec, Dst, Exp, Jef}
@@ -30,7 +36,8 @@ use Rattle.rules.specs.declared.Verdict.the-variants.{Accepted, Refused}
 
 -- DST: the list with its threads, 542 bytes
 abbrev dstList : List Cmd
-dstList = commands ((pos 0) ∷ (pos 4) ∷ (pos 4) ∷ (negsuc 8) ∷ (negsuc 9) ∷ (negsuc 9) ∷ (negsuc 10) ∷ (negsuc 10) ∷ []) ((pos 0) ∷ (negsuc 49) ∷ (negsuc 49) ∷ (negsuc 68) ∷ (negsuc 66) ∷ (negsuc 66) ∷ (negsuc 66) ∷ (negsuc 66) ∷ []) (3 ∷ 0 ∷ 3 ∷ 0 ∷ 1 ∷ 2 ∷ 0 ∷ 4 ∷ [])
+dstList = commands ((pos 0) ∷ (pos 4) ∷ (pos 4) ∷ (negsuc 8) ∷ (negsuc 9) ∷ (negsuc 9) ∷ (negsuc 10) ∷ (negsuc 10) ∷ [])
+    ((pos 0) ∷ (negsuc 49) ∷ (negsuc 49) ∷ (negsuc 68) ∷ (negsuc 66) ∷ (negsuc 66) ∷ (negsuc 66) ∷ (negsuc 66) ∷ []) (3 ∷ 0 ∷ 3 ∷ 0 ∷ 1 ∷ 2 ∷ 0 ∷ 4 ∷ [])
 
 abbrev dstWritten : List ℕ
 dstWritten = joined
@@ -49,7 +56,8 @@ dstWritten = joined
 
 -- PEC: the list with its threads, 1244 bytes
 abbrev pecList : List Cmd
-pecList = commands ((negsuc 62) ∷ (negsuc 42) ∷ (negsuc 42) ∷ (negsuc 42) ∷ (negsuc 171) ∷ (negsuc 187) ∷ (negsuc 187) ∷ []) ((negsuc 403) ∷ (pos 80) ∷ (pos 80) ∷ (pos 80) ∷ (pos 335) ∷ (pos 463) ∷ (pos 463) ∷ []) (0 ∷ 1 ∷ 2 ∷ 3 ∷ 1 ∷ 0 ∷ 4 ∷ [])
+pecList = commands ((negsuc 62) ∷ (negsuc 42) ∷ (negsuc 42) ∷ (negsuc 42) ∷ (negsuc 171) ∷ (negsuc 187) ∷ (negsuc 187) ∷ [])
+    ((negsuc 403) ∷ (pos 80) ∷ (pos 80) ∷ (pos 80) ∷ (pos 335) ∷ (pos 463) ∷ (pos 463) ∷ []) (0 ∷ 1 ∷ 2 ∷ 3 ∷ 1 ∷ 0 ∷ 4 ∷ [])
 
 abbrev pecWritten : List ℕ
 pecWritten = joined
@@ -129,7 +137,9 @@ pesWritten = joined
 
 -- EXP: the list with its threads, 24 bytes
 abbrev expList : List Cmd
-expList = commands ((pos 3) ∷ (pos 3) ∷ (pos 6) ∷ (pos 9) ∷ (pos 9) ∷ (pos 9) ∷ (pos 2) ∷ (pos 5) ∷ (pos 5) ∷ []) ((negsuc 3) ∷ (negsuc 3) ∷ (negsuc 7) ∷ (negsuc 11) ∷ (negsuc 11) ∷ (negsuc 11) ∷ (negsuc 6) ∷ (negsuc 10) ∷ (negsuc 10) ∷ []) (0 ∷ 3 ∷ 0 ∷ 0 ∷ 2 ∷ 3 ∷ 1 ∷ 0 ∷ 4 ∷ [])
+expList = commands ((pos 3) ∷ (pos 3) ∷ (pos 6) ∷ (pos 9) ∷ (pos 9) ∷ (pos 9) ∷ (pos 2) ∷ (pos 5) ∷ (pos 5) ∷ [])
+    ((negsuc 3) ∷ (negsuc 3) ∷ (negsuc 7) ∷ (negsuc 11) ∷ (negsuc 11) ∷ (negsuc 11) ∷ (negsuc 6) ∷ (negsuc 10) ∷ (negsuc 10) ∷ [])
+    (0 ∷ 3 ∷ 0 ∷ 0 ∷ 2 ∷ 3 ∷ 1 ∷ 0 ∷ 4 ∷ [])
 
 abbrev expWritten : List ℕ
 expWritten = joined
@@ -139,7 +149,8 @@ expWritten = joined
 
 -- JEF: the list with its threads, 152 bytes
 abbrev jefList : List Cmd
-jefList = commands ((pos 0) ∷ (pos 3) ∷ (pos 3) ∷ (pos 3) ∷ (pos 3) ∷ (pos 0) ∷ (pos 127) ∷ (pos 127) ∷ []) ((pos 0) ∷ (negsuc 0) ∷ (negsuc 2) ∷ (negsuc 2) ∷ (negsuc 66) ∷ (negsuc 66) ∷ (negsuc 66) ∷ (negsuc 66) ∷ []) (2 ∷ 0 ∷ 1 ∷ 3 ∷ 0 ∷ 0 ∷ 1 ∷ 4 ∷ [])
+jefList = commands ((pos 0) ∷ (pos 3) ∷ (pos 3) ∷ (pos 3) ∷ (pos 3) ∷ (pos 0) ∷ (pos 127) ∷ (pos 127) ∷ [])
+    ((pos 0) ∷ (negsuc 0) ∷ (negsuc 2) ∷ (negsuc 2) ∷ (negsuc 66) ∷ (negsuc 66) ∷ (negsuc 66) ∷ (negsuc 66) ∷ []) (2 ∷ 0 ∷ 1 ∷ 3 ∷ 0 ∷ 0 ∷ 1 ∷ 4 ∷ [])
 
 abbrev jefWritten : List ℕ
 jefWritten = joined
@@ -169,11 +180,14 @@ dstSample = joined
 abbrev expSample : List ℕ
 expSample = 0x0A ∷ 0x00 ∷ 0x00 ∷ 0xF6 ∷ 0x80 ∷ 0x04 ∷ 0x05 ∷ 0x05 ∷ 0x03 ∷ 0x00 ∷ []
 
-pub vectors : (fileOf Dst (0x42 ∷ 0x6C ∷ 0xC3 ∷ 0xBC ∷ 0x74 ∷ 0x65 ∷ 0x20 ∷ 0xC3 ∷ 0xA9 ∷ 0x74 ∷ 0xC3 ∷ 0xA9 ∷ 0x20 ∷ 0xF0 ∷ 0x9F ∷ 0xA7 ∷ 0xB5 ∷ []) dstList (1 ∷ 2 ∷ 1 ∷ 67 ∷ 86 ∷ 7 ∷ 255 ∷ 0 ∷ 255 ∷ []) ≡ dstWritten)
-    × ((fileOf Pec (0x73 ∷ 0x65 ∷ 0x76 ∷ 0x65 ∷ 0x6E ∷ 0x74 ∷ 0x65 ∷ 0x65 ∷ 0x6E ∷ 0x20 ∷ 0x6C ∷ 0x65 ∷ 0x74 ∷ 0x74 ∷ 0x65 ∷ 0x72 ∷ 0x73 ∷ []) pecList (0 ∷ 0 ∷ 0 ∷ 255 ∷ 0 ∷ 255 ∷ []) ≡ pecWritten)
+pub vectors : (fileOf Dst (0x42 ∷ 0x6C ∷ 0xC3 ∷ 0xBC ∷ 0x74 ∷ 0x65 ∷ 0x20 ∷ 0xC3 ∷ 0xA9 ∷ 0x74 ∷ 0xC3 ∷ 0xA9 ∷ 0x20 ∷ 0xF0 ∷ 0x9F ∷ 0xA7 ∷ 0xB5 ∷ []) dstList
+    (1 ∷ 2 ∷ 1 ∷ 67 ∷ 86 ∷ 7 ∷ 255 ∷ 0 ∷ 255 ∷ []) ≡ dstWritten)
+    × ((fileOf Pec (0x73 ∷ 0x65 ∷ 0x76 ∷ 0x65 ∷ 0x6E ∷ 0x74 ∷ 0x65 ∷ 0x65 ∷ 0x6E ∷ 0x20 ∷ 0x6C ∷ 0x65 ∷ 0x74 ∷ 0x74 ∷ 0x65 ∷ 0x72 ∷ 0x73 ∷ []) pecList
+    (0 ∷ 0 ∷ 0 ∷ 255 ∷ 0 ∷ 255 ∷ []) ≡ pecWritten)
     × ((fileOf Pes (0x73 ∷ 0x69 ∷ 0x78 ∷ 0x74 ∷ 0x65 ∷ 0x65 ∷ 0x6E ∷ 0x20 ∷ 0x6C ∷ 0x65 ∷ 0x74 ∷ 0x74 ∷ 0x65 ∷ 0x72 ∷ 0x73 ∷ 0x21 ∷ []) pesList (0 ∷ 0 ∷ 0 ∷ []) ≡ pesWritten)
     × ((fileOf Exp ([]) expList (255 ∷ 255 ∷ 0 ∷ 255 ∷ 255 ∷ 0 ∷ []) ≡ expWritten)
-    × ((fileOf Jef (0x42 ∷ 0x6C ∷ 0xC3 ∷ 0xBC ∷ 0x74 ∷ 0x65 ∷ 0x20 ∷ 0xC3 ∷ 0xA9 ∷ 0x74 ∷ 0xC3 ∷ 0xA9 ∷ 0x20 ∷ 0xF0 ∷ 0x9F ∷ 0xA7 ∷ 0xB5 ∷ []) jefList (0 ∷ 0 ∷ 0 ∷ 203 ∷ 162 ∷ 28 ∷ []) ≡ jefWritten)
+    × ((fileOf Jef (0x42 ∷ 0x6C ∷ 0xC3 ∷ 0xBC ∷ 0x74 ∷ 0x65 ∷ 0x20 ∷ 0xC3 ∷ 0xA9 ∷ 0x74 ∷ 0xC3 ∷ 0xA9 ∷ 0x20 ∷ 0xF0 ∷ 0x9F ∷ 0xA7 ∷ 0xB5 ∷ []) jefList
+    (0 ∷ 0 ∷ 0 ∷ 203 ∷ 162 ∷ 28 ∷ []) ≡ jefWritten)
     × ((labelOf Dst dstSample ≡ (108 ∷ 97 ∷ 115 ∷ 116 ∷ []))
     × ((placesOf Dst dstSample ≡ ((pos 0) ∷ (pos 0) ∷ (pos 1) ∷ (pos 0) ∷ (pos 1) ∷ (pos 0) ∷ (pos 1) ∷ (negsuc 0) ∷ (pos 122) ∷ (negsuc 0) ∷ (pos 122) ∷ (negsuc 0) ∷ []))
     × ((runsOf Dst dstSample ≡ (2 ∷ 2 ∷ 2 ∷ []))
@@ -187,5 +201,17 @@ pub vectors : (fileOf Dst (0x42 ∷ 0x6C ∷ 0xC3 ∷ 0xBC ∷ 0x74 ∷ 0x65 ∷
     × ((fileVerdict (Of Dst) (replicate 511 0x20) ≡ Refused FileTooShort)
     × ((fileVerdict (Of Dst) (replicate 512 0x20) ≡ Accepted)
     × (blocksOf Dst (replicate 512 0x20) ≡ [])))))))))))))))))
-unfolding pointsAfter startOf places runOf runs blockOf begunAfter blocks pointTotal blockTotal cuts pecChart jefChart blankIcon halfToEven gap weighed distance noNearer nearest nearestIndex nearestFirst choices pecPalette jefPalette sameColor entryOf jefNearest jefChoice jefEntries bit weigh dstX dstY under dstRecord dstFirst digit rest z27 z9 z3 z1 pair dstBytes dstCmd line signedRight recordCount dstText dstFile two control after80 pairFirst pairOf expCmd expFile fileOf wordAt eventsOf blank trimStart beforeEnd trimEnd trimmed cutBefore linesOf begins lastLabel labelOf hexDigit hexPair hexColor sixDigits dropHashes beforeComma lineColor addColor lineColors slotAt pecEvents pecLabel pecColor jefRecords jefCount jefColor stored defaults colorNumber orDefault colourOf placesOf runsOf blocksOf noCount fileRefusals noRoom fileVerdict readVerdict jefCmd word pointsIn pointCount jefHoop halfUp edges orOne jefTable words jefHeader jefFile opOf commands endsOnce placed samePlace isChange isTrim stands anyFrom written lastX lastY leastStep greatestStep stepIn minZ maxZ leastFrom greatestFrom least greatest minX minY maxX maxY width height threadsOf pecName dstName longAxis axisOf afterAxis bothAxes starts pecChange pecFirst wide pecValue pecStart pecNext pause pecCmd pecStitches distinct give givenTo foundOr uniquePalette pecColors pecHeader pecBlock pecPart pecFile halves matrixField threadCode runLength runX runY pesStart opens pesNext pesPoint pesOpen pesCmd pesSections sectionCount opensSection colorLog pesString shorts pesBlocks pesMiddle pesFile recordThen events badList outside placeOutside changes tooMany moves moved stepsPast stepTooLong verdict entry blockAfter sewsCmd sews listSewing sewsRun runSewing runsSewing cells fileSewing atLeastOne lesser floorOf within pixel painted marked drawn atFront colorBlocks icons between all any count keep next firstWhere orElse lastWhere sameBytes signed bitsOf little fromLittle joined digitAt right padded fuelled add sub mul div neg lt ofInt ofBits round toBits partAt
+unfolding pointsAfter startOf places runOf runs blockOf begunAfter blocks pointTotal blockTotal cuts pecChart jefChart blankIcon halfToEven gap weighed distance noNearer
+    nearest nearestIndex nearestFirst choices pecPalette jefPalette sameColor entryOf jefNearest jefChoice jefEntries bit weigh dstX dstY under dstRecord dstFirst digit
+    rest z27 z9 z3 z1 pair dstBytes dstCmd line signedRight recordCount dstText dstFile two control after80 pairFirst pairOf expCmd expFile fileOf wordAt eventsOf blank
+    trimStart beforeEnd trimEnd trimmed cutBefore linesOf begins lastLabel labelOf hexDigit hexPair hexColor sixDigits dropHashes beforeComma lineColor addColor
+    lineColors slotAt pecEvents pecLabel pecColor jefRecords jefCount jefColor stored defaults colorNumber orDefault colourOf placesOf runsOf blocksOf noCount
+    fileRefusals noRoom fileVerdict readVerdict jefCmd word pointsIn pointCount jefHoop halfUp edges orOne jefTable words jefHeader jefFile opOf commands endsOnce placed
+    samePlace isChange isTrim stands anyFrom written lastX lastY leastStep greatestStep stepIn minZ maxZ leastFrom greatestFrom least greatest minX minY maxX maxY width
+    height threadsOf pecName dstName longAxis axisOf afterAxis bothAxes starts pecChange pecFirst wide pecValue pecStart pecNext pause pecCmd pecStitches distinct give
+    givenTo foundOr uniquePalette pecColors pecHeader pecBlock pecPart pecFile halves matrixField threadCode runLength runX runY pesStart opens pesNext pesPoint pesOpen
+    pesCmd pesSections sectionCount opensSection colorLog pesString shorts pesBlocks pesMiddle pesFile recordThen events badList outside placeOutside changes tooMany
+    moves moved stepsPast stepTooLong verdict entry blockAfter sewsCmd sews listSewing sewsRun runSewing runsSewing cells fileSewing atLeastOne lesser floorOf within
+    pixel painted marked drawn atFront colorBlocks icons between all any count keep next firstWhere orElse lastWhere sameBytes signed bitsOf little fromLittle joined
+    digitAt right padded fuelled add sub mul div neg lt ofInt ofBits round toBits partAt
 vectors = (refl, (refl, (refl, (refl, (refl, (refl, (refl, (refl, (refl, (refl, (refl, (refl, (refl, (refl, (refl, (refl, (refl, refl)))))))))))))))))

@@ -11,12 +11,13 @@ use rules::Refusal;
 ghost use Prim.Native.Nat.{ℕ, _≤_, _<_};
 ghost use mathlib.Core.Path.{_≡_};
 ghost use lib.ListN.{length, getD};
+ghost use Rattle.rules.specs.Promises.{was};
 
 // Where the first line ends: at its newline, or where the input ends.
 fn line_end(input: &[u8]) -> usize
-    ensures within { λ r. ⌜ r ≤ length (now (input .entry)) ⌝ }
-    ensures before { λ r. ⌜ ((k : ℕ) → k < r → getD (now (input .entry)) k 0 ≡ 10 → ⊥) ⌝ }
-    ensures found { λ r. ⌜ (r < length (now (input .entry)) → getD (now (input .entry)) r 0 ≡ 10) ⌝ }
+    ensures within { λ r. ⌜ r ≤ length (was input) ⌝ }
+    ensures before { λ r. ⌜ ((k : ℕ) → k < r → getD (was input) k 0 ≡ 10 → ⊥) ⌝ }
+    ensures found { λ r. ⌜ (r < length (was input) → getD (was input) r 0 ≡ 10) ⌝ }
 {
     let mut i = 0;
     while i < input.len() {
@@ -51,7 +52,7 @@ fn answer(out: &mut Buffer, ext: &[u8], file: &[u8]) -> usize
     match told {
         ReadAnswer::Read(c) => {
             let mut at = show::counts(out, 0, ext, c);
-            at = show::label(out, at, front::label(ext, file));
+            at = show::label(out, at, read_refusals::label(ext, file));
             show::blocks(out, at, &places, &runs, &blocks, c.blocks)
         }
         ReadAnswer::Unread(why) => show::refused(out, 0, why),

@@ -11,6 +11,7 @@ use rules::Format;
 use rules::Refusal;
 ghost use Prim.Native.Nat.{_≤_, _<_};
 ghost use lib.ListN.{length};
+ghost use Rattle.rules.specs.Promises.{was};
 
 // A name and a number.
 fn number(out: &mut Buffer, at: usize, name: &[u8], n: u32) -> usize
@@ -37,7 +38,7 @@ pub fn refused(out: &mut Buffer, at: usize, why: Refusal) -> usize
     requires { ⌜ at ≤ 65536 ⌝ }
     ensures { λ r. ⌜ r ≤ 65536 ⌝ }
 {
-    let to = number(out, at, b"refused ", checks::number(why));
+    let to = number(out, at, b"refused ", write_refusals::number(why));
     put_byte(out, to, b'\n')
 }
 
@@ -178,7 +179,7 @@ struct Next {
 // A run of n points.
 fn run(out: &mut Buffer, from: Next, places: &[i32], n: u32) -> Next
     requires { ⌜ (from .at ≤ 65536) × (from .cell ≤ length (now places)) ⌝ }
-    ensures { λ r. ⌜ (r .at ≤ 65536) × (r .cell ≤ length (now (places .entry))) ⌝ }
+    ensures { λ r. ⌜ (r .at ≤ 65536) × (r .cell ≤ length (was places)) ⌝ }
 {
     let cell = from.cell;
     let end = past(cell, 2 * wide(n), places.len());
@@ -192,7 +193,7 @@ fn run(out: &mut Buffer, from: Next, places: &[i32], n: u32) -> Next
 
 fn block_runs(out: &mut Buffer, from: Next, places: &[i32], runs: &[u32]) -> Next
     requires { ⌜ (from .at ≤ 65536) × (from .cell ≤ length (now places)) ⌝ }
-    ensures { λ r. ⌜ (r .at ≤ 65536) × (r .cell ≤ length (now (places .entry))) ⌝ }
+    ensures { λ r. ⌜ (r .at ≤ 65536) × (r .cell ≤ length (was places)) ⌝ }
 {
     let mut next = from;
     let mut i = 0;
@@ -214,7 +215,7 @@ fn block(
     n: u32,
 ) -> Next
     requires { ⌜ (from .at ≤ 65536) × (from .cell ≤ length (now places)) × (from .run ≤ length (now runs)) ⌝ }
-    ensures { λ r. ⌜ (r .at ≤ 65536) × (r .cell ≤ length (now (places .entry))) × (r .run ≤ length (now (runs .entry))) ⌝ }
+    ensures { λ r. ⌜ (r .at ≤ 65536) × (r .cell ≤ length (was places)) × (r .run ≤ length (was runs)) ⌝ }
 {
     let start = from.run;
     let end = past(start, wide(n), runs.len());

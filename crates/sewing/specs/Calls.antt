@@ -1,5 +1,7 @@
--- Demand 3 about the calls `write` and `read`: for every list accepted for a format, any name, any threads and buffers long enough, neither call
--- refuses, and what the caller finds in the buffers sews what the list sews. Of two lists, in one format or two: equal sewings come back exactly
+-- Demand 3 about the calls `write` and `read`: for every list accepted for a format, any name, any threads and buffers long enough,
+-- neither call
+-- refuses, and what the caller finds in the buffers sews what the list sews. Of two lists, in one format or two: equal sewings come back
+-- exactly
 -- when the lists sew the same. Assumes nothing.
 use mathlib.Core.Path.{_≡_, refl, _∙_}
 use mathlib.Core.Logic.{_↔_}
@@ -15,7 +17,8 @@ use Rattle.rules.specs.Limits.{blockCells}
 use Rattle.rules.specs.Lists.{commands}
 use Rattle.rules.specs.Records.{Event, stitch, jump, change}
 use Rattle.rules.specs.Refusals.{verdict, listRefusals, listVerdict}
-use Rattle.rules.specs.Files.{fileOf, eventsOf, colourOf, placesOf, runsOf, blocksOf, readVerdict, placesTold, runsTold, blocksTold, countsOf, readAnswer, readNumber, readCounts, filled, fileTold, writeVerdict, writeAnswer, writeNumber, writeLength}
+use Rattle.rules.specs.Files.{fileOf, eventsOf, colourOf, placesOf, runsOf, blocksOf, readVerdict, placesTold, runsTold, blocksTold, countsOf, readAnswer, readNumber}
+use Rattle.rules.specs.Files.{readCounts, filled, fileTold, writeVerdict, writeAnswer, writeNumber, writeLength}
 use Rattle.rules.specs.Sewing.{Entry, listSewing, fileSewing, toldSewing}
 use Rattle.rules.specs.Promises.{Wrote, ReadOf, Room}
 use Rattle.rules.specs.declared.Cmd.{Cmd}
@@ -30,7 +33,8 @@ use Rattle.rules.specs.declared.WriteAnswer.the-variants.{Written}
 use Rattle.laws.specs.Verdicts.{verdict-on}
 use Rattle.sewing.specs.Theorem.{kept, alike, read-accepted}
 
--- A list accepted for a format, written into a buffer that is long enough; the file is the front bytes of the length told. It is read under
+-- A list accepted for a format, written into a buffer that is long enough; the file is the front bytes of the length told. It is read
+-- under
 -- the same extension, with buffers that hold the answer. `extension` is what the extension names, whatever its letters' case.
 pub record RoundTrip : Type 0 where
   pub format : Format

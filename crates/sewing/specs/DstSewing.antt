@@ -14,7 +14,8 @@ use Rattle.rules.specs.Vocabulary.{eqZ, between, sameBytes, padded, joined}
 use Rattle.rules.specs.Lists.{opOf, written, dstName}
 use Rattle.rules.specs.Sewing.{listSewing, entry}
 use Rattle.rules.specs.Refusals.{verdict, stepIn, leastStep, greatestStep}
-use Rattle.rules.specs.Dst.{bit, weigh, dstX, dstY, under, dstRecord, dstFirst, Digit, minus, nought, plus, digit, rest, z27, z9, z3, z1, pair, dstBytes, dstCmd, line, signedRight, dstText, dstFile}
+use Rattle.rules.specs.Dst.{bit, weigh, dstX, dstY, under, dstRecord, dstFirst, Digit, minus, nought, plus, digit, rest, z27, z9, z3, z1, pair, dstBytes, dstCmd, line}
+use Rattle.rules.specs.Dst.{signedRight, dstText, dstFile}
 use Rattle.rules.specs.Files.{fileOf, eventsOf, fileRefusals, fileVerdict}
 use Rattle.rules.specs.declared.Cmd.{Cmd}
 use Rattle.rules.specs.declared.Extension.the-variants.{Of}

@@ -1,4 +1,5 @@
--- PEC and PES files: where the stitches stand, how long the parts are, and that they sew what the list sews and are not refused. Assumes nothing.
+-- PEC and PES files: where the stitches stand, how long the parts are, and that they sew what the list sews and are not refused. Assumes
+-- nothing.
 use mathlib.Core.Path.{_≡_, refl, sym, _∙_, ap}
 use mathlib.Core.Bool.{true, _&&_}
 use mathlib.Core.List.{List, [], _∷_, _++_, append-assoc, append-nil}

@@ -1,4 +1,5 @@
--- PEC's stitches, read, sew what the list sews, for any state of the writer and any bytes after the end that begin with 00. Assumes nothing.
+-- PEC's stitches, read, sew what the list sews, for any state of the writer and any bytes after the end that begin with 00. Assumes
+-- nothing.
 use mathlib.Core.Path.{_≡_, refl, sym, _∙_, ap, ap₂}
 use mathlib.Core.Logic.{_≢_}
 use mathlib.Core.Bool.{Bool, true, false, not, _||_}

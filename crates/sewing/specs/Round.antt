@@ -90,7 +90,9 @@ module _ {S : Type 0} (first : List ℕ → Record) (fits : ℤ → ℤ → Bool
   unfolding sews
   round s x y [] g k = absurd g
   round s x y (c ∷ []) g k =
-      ap (λ (b : List ℕ). sewn first (b ++ tail) k x y) (w-cons s x y c [] ∙ ap (λ (b : List ℕ). cmd s (opOf (c .kind)) (c .x -ℤ x) (c .y -ℤ y) ++ b) (w-nil _ (c .x) (c .y)) ∙ append-nil (cmd s (opOf (c .kind)) (c .x -ℤ x) (c .y -ℤ y)))
+      ap (λ (b : List ℕ). sewn first (b ++ tail) k x y)
+      (w-cons s x y c [] ∙ ap (λ (b : List ℕ). cmd s (opOf (c .kind)) (c .x -ℤ x) (c .y -ℤ y) ++ b) (w-nil _ (c .x) (c .y)) ∙ append-nil
+      (cmd s (opOf (c .kind)) (c .x -ℤ x) (c .y -ℤ y)))
       ∙ last s (opOf (c .kind)) k x y (c .x) (c .y) (g .0) (g .1)
   round s x y (c ∷ d ∷ cs) g k =
       ap (λ (b : List ℕ). sewn first (b ++ tail) k x y) (w-cons s x y c (d ∷ cs))

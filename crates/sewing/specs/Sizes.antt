@@ -1,4 +1,5 @@
--- How long a written file can be: `boundOf` and what `write_bound` answers. No accepted list's file is longer, and a write into a buffer that is
+-- How long a written file can be: `boundOf` and what `write_bound` answers. No accepted list's file is longer, and a write into a buffer
+-- that is
 -- at least as long as `write_bound` answers is never refused by 11. Assumes nothing.
 use mathlib.Core.Path.{_≡_, refl, sym, _∙_, ap}
 use mathlib.Core.Bool.{Bool}

@@ -1,5 +1,7 @@
--- Demand 3 over the definitions: for every list accepted for a format, with any name and threads, the file that is written is not refused, and what is
--- read of it sews what the list sews. Two lists, in one format or two, read back as equal sewings exactly when they sew the same. Assumes nothing.
+-- Demand 3 over the definitions: for every list accepted for a format, with any name and threads, the file that is written is not
+-- refused, and what is
+-- read of it sews what the list sews. Two lists, in one format or two, read back as equal sewings exactly when they sew the same. Assumes
+-- nothing.
 use mathlib.Core.Path.{_≡_, sym, _∙_}
 use mathlib.Core.Logic.{_↔_}
 use mathlib.Core.List.{List}

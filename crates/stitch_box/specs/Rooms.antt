@@ -1,4 +1,5 @@
--- Buffers that hold what is read of any file of n bytes: n + 2 cells for places, n / 2 for runs and 3 n / 2 for blocks. A `read` with these is
+-- Buffers that hold what is read of any file of n bytes: n + 2 cells for places, n / 2 for runs and 3 n / 2 for blocks. A `read` with
+-- these is
 -- never refused by 11. Assumes nothing.
 use Prim.Native.Nat.{ℕ, _+_, _*_, _/_, _≤_}
 use mathlib.Core.Path.{_≡_, sym, _∙_, ap}
@@ -28,9 +29,9 @@ use Rattle.rules.specs.declared.Refusal.the-variants.{BufferTooShort}
 use Rattle.rules.specs.declared.Verdict.{Verdict}
 use Rattle.rules.specs.declared.Verdict.the-variants.{Accepted, Refused}
 use Rattle.laws.specs.Tests.{by-test}
-use Rattle.passes.proofs.Bounds.{ample-fits}
-use Rattle.passes.specs.Told.{Fits, Ample}
-use Rattle.records.specs.Firsts.{firstOf}
+use Rattle.read_passes.proofs.Bounds.{ample-fits}
+use Rattle.read_passes.specs.Told.{Fits, Ample}
+use Rattle.read_records.specs.Firsts.{firstOf}
 use Rattle.sewing.specs.Sizes.{Below, Small}
 
 -- JEF's records are a part of the file

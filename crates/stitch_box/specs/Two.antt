@@ -1,4 +1,5 @@
--- Two lists, each written and read back by `write_and_read`, in one format or two: equal sewings come back exactly when the lists sew the same.
+-- Two lists, each written and read back by `write_and_read`, in one format or two: equal sewings come back exactly when the lists sew the
+-- same.
 -- Assumes nothing.
 use mathlib.Core.Path.{_≡_}
 use mathlib.Core.Logic.{_↔_}
@@ -16,7 +17,8 @@ use Rattle.rules.specs.declared.RoundTripAnswer.{RoundTripAnswer}
 use Rattle.rules.specs.declared.Verdict.the-variants.{Accepted}
 use Rattle.sewing.specs.Theorem.{alike}
 
--- a call of `write_and_read` that answers a, for a list accepted for its format and buffers that hold the file and its answer; `promised` is its contract
+-- a call of `write_and_read` that answers a, for a list accepted for its format and buffers that hold the file and its answer; `promised`
+-- is its contract
 pub record Call : Type 0 where
   pub format : Format
   pub ext : List ℕ

@@ -1,8 +1,8 @@
 // The calls of the box. What each promises is a record of specs/Promises.antt of crate rules, for every input.
 use dst::dst_from_stream;
+use exp::write_exp;
 use formats::extension_of;
-use more::exp::write_exp;
-use more::jef::write_jef;
+use jef::write_jef;
 use pes::pes_from_stream;
 use pes::write_pec_file;
 use rules::DST_HEADER;
@@ -121,7 +121,7 @@ pub fn read(
 pub fn label<'a>(ext: &[u8], file: &'a [u8]) -> &'a [u8]
     ensures { λ r. ⌜ now r ≡ labelTold (extensionOf (was ext)) (was file) ⌝ }
 {
-    front::label(ext, file)
+    read_refusals::label(ext, file)
 }
 
 // The read of a file that has been written with n bytes.

@@ -2,9 +2,9 @@
 use Prim.Native.Nat.{ℕ}
 use mathlib.Core.Path.{_≡_, refl}
 use mathlib.Core.List.{List}
-use Rattle.front.specs.Labels.{labelAnswered}
-use Rattle.front.specs.declared.LabelAnswer.{LabelAnswer}
-use Rattle.front.specs.declared.LabelAnswer.the-variants.{Found, Not}
+use Rattle.read_refusals.specs.Labels.{labelAnswered}
+use Rattle.read_refusals.specs.declared.LabelAnswer.{LabelAnswer}
+use Rattle.read_refusals.specs.declared.LabelAnswer.the-variants.{Found, Not}
 use Rattle.rules.specs.Promises.{verdictNumber, LabelAt}
 use Rattle.rules.specs.declared.Verdict.{Verdict}
 use Rattle.rules.specs.declared.Verdict.the-variants.{Accepted, Refused}

@@ -1,7 +1,7 @@
 -- The number, start and length of what the label's call answers.
 use Prim.Native.Nat.{ℕ}
-use Rattle.front.specs.declared.LabelAnswer.{LabelAnswer}
-use Rattle.front.specs.declared.LabelAnswer.the-variants.{Found, Not}
+use Rattle.read_refusals.specs.declared.LabelAnswer.{LabelAnswer}
+use Rattle.read_refusals.specs.declared.LabelAnswer.the-variants.{Found, Not}
 use Rattle.rules.specs.Refusals.{numberOf}
 
 abbrev pub labelNumber : LabelAnswer → ℕ

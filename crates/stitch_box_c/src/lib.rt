@@ -1,10 +1,10 @@
 // The C interface: numbers and slices only, each slice as a pointer and a length. Single numbers go out through references.
-use checks::number;
-use front::LabelAnswer;
+use read_refusals::LabelAnswer;
 use rules::Cmd;
 use rules::Counts;
 use rules::ReadAnswer;
 use rules::WriteAnswer;
+use write_refusals::number;
 ghost use mathlib.Core.Path.{_≡_};
 ghost use Rattle.rules.specs.Files.{readNumber, readCounts, writeNumber, writeLength};
 ghost use Rattle.rules.specs.Promises.{was, left, xsOf, ysOf, kindsOf, WroteNumbers, boundTold, ReadNumbers, LabelNumbers};
@@ -89,7 +89,7 @@ pub extern "C" fn stitch_box_label(
 ) -> u32
     ensures { λ r. ⌜ LabelNumbers (extensionOf (was ext)) (was file) r (left start) (left length) ⌝ }
 {
-    let answer = front::label_answer(ext, file);
+    let answer = read_refusals::label_answer(ext, file);
     put_label(answer, start, length)
 }
 
@@ -140,7 +140,7 @@ pub extern "C" fn stitch_box_write_cmds(
     ensures { λ r. ⌜ WroteNumbers (extensionOf (was ext)) (was name) (xsOf (was cmds)) (ysOf (was cmds)) (kindsOf (was cmds)) (was threads)
         (was out) (left out) r (left length) ⌝ }
 {
-    let answer = cmds::write_cmds(ext, name, cmds, threads, out);
+    let answer = stitch_box_cmds::write_cmds(ext, name, cmds, threads, out);
     put_length(answer, length)
 }
 

@@ -20,7 +20,7 @@ use Rattle.rules.specs.Thumbnails.{real, f1, floorOf, within, pixel}
 use Rattle.laws.specs.Tests.{by-test, false-true}
 use Rattle.thumbnails.specs.Cells.{isIn, noCell, Covers, Seen}
 use Rattle.thumbnails.specs.declared.Cell.{Cell}
-use Rattle.scales.proofs.Floors.{minus-zero}
+use Rattle.thumbnail_scale.proofs.Floors.{minus-zero}
 
 -- ---- a float below a whole number
 

@@ -18,7 +18,7 @@ use Rattle.rules.specs.declared.Scale.{Scale}
 use Rattle.laws.specs.Tests.{by-test}
 use Rattle.laws.specs.Buffers.{Put, Writing, put-as, writing-room, writing-more}
 use Rattle.laws.specs.Listing.{list-end, commands-more}
-use Rattle.tables.specs.Blocks.{blockIcons}
+use Rattle.thumbnail_tables.specs.Blocks.{blockIcons}
 use Rattle.thumbnails.specs.Blocks.{changeFrom}
 use Rattle.thumbnails.proofs.Sizes.{icon-long}
 

@@ -14,7 +14,7 @@ use Rattle.laws.specs.Listing.{noCmd}
 use Rattle.laws.specs.Tests.{by-test}
 use Rattle.geom.specs.Frames.{boundsOf}
 use Rattle.geom.specs.declared.Bounds.{Bounds}
-use Rattle.tables.specs.Cells.{From, Framed}
+use Rattle.thumbnail_tables.specs.Cells.{From, Framed}
 
 -- ---- least and greatest
 

@@ -1,4 +1,5 @@
--- What the calls of a function ensure, joined to what the function ensures. A call is handed a signed number as it is read back, so each comes with its equation.
+-- What the calls of a function ensure, joined to what the function ensures. A call is handed a signed number as it is read back, so each
+-- comes with its equation.
 use Prim.Native.Nat.{ℕ}
 use mathlib.Core.Path.{_≡_, sym, _∙_}
 use mathlib.Core.Bool.{Bool, true}
@@ -7,7 +8,7 @@ use lib.IntN.{ℤ}
 use lib.Ieee.{Float}
 use Rattle.rules.specs.Thumbnails.{floorOf, within, pixel, painted}
 use Rattle.rules.specs.declared.Scale.{Scale}
-use Rattle.scales.specs.Places.{scaledAt}
+use Rattle.thumbnail_scale.specs.Places.{scaledAt}
 use Rattle.thumbnails.specs.Cells.{isIn, Covers, Seen}
 use Rattle.thumbnails.specs.declared.Cell.{Cell}
 use Rattle.thumbnails.proofs.Cells.{seen-new}

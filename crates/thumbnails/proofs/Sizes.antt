@@ -13,7 +13,7 @@ use Rattle.rules.specs.declared.Cmd.{Cmd}
 use Rattle.rules.specs.declared.Op.{Op}
 use Rattle.rules.specs.declared.Scale.{Scale}
 use Rattle.laws.specs.Lengths.{blank-length, length-marked, length-drawn, length-drawns, length-blocks}
-use Rattle.tables.specs.Blocks.{blockIcons}
+use Rattle.thumbnail_tables.specs.Blocks.{blockIcons}
 
 pub marked-is : (s : Scale) (icon : List ℕ) (op : Op) (x y : ℤ) {icon′ : List ℕ} → length icon ≡ 228 → icon′ ≡ marked s icon op x y → length icon′ ≡ 228
 marked-is s icon op x y h e = rw e (length-marked s op icon x y ∙ h)

@@ -17,8 +17,8 @@ use Rattle.rules.specs.declared.Scale.{Scale}
 use Rattle.laws.specs.Buffers.{Put, put-length, put-put, put-as}
 use Rattle.geom.specs.Frames.{boundsOf}
 use Rattle.geom.specs.declared.Bounds.{Bounds}
-use Rattle.tables.specs.Blocks.{blockIcons}
-use Rattle.scales.proofs.Joined.{scale-same}
+use Rattle.thumbnail_tables.specs.Blocks.{blockIcons}
+use Rattle.thumbnail_scale.proofs.Joined.{scale-same}
 use Rattle.laws.specs.Lengths.{length-icons}
 use Rattle.thumbnails.proofs.Sizes.{icon-long, blocks-long}
 

@@ -8,10 +8,10 @@ use geom::Bounds;
 use pec_data::pec_icon_blank;
 use rules::Op;
 use rules::Scale;
-use scales::floor;
-use scales::scale_of;
-use scales::scaled;
-use tables::put_by_tables;
+use thumbnail_scale::floor;
+use thumbnail_scale::scale_of;
+use thumbnail_scale::scaled;
+use thumbnail_tables::put_by_tables;
 ghost use mathlib.Core.Path.{_≡_};
 ghost use mathlib.Core.Bool.{true};
 ghost use mathlib.Core.List.{_++_};
@@ -22,16 +22,17 @@ ghost use lib.Seq.{slice};
 ghost use Rattle.rules.specs.Charts.{blankIcon};
 ghost use Rattle.rules.specs.Lists.{isChange, commands};
 ghost use Rattle.rules.specs.Thumbnails.{floorOf, within, pixel, painted, marked, drawn, icons};
-ghost use Rattle.laws.specs.Buffers.{Put};
+ghost use Rattle.rules.specs.Promises.{was, left};
+ghost use Rattle.laws.specs.Buffers.{Puts};
 ghost use Rattle.geom.specs.Frames.{boundsOf};
-ghost use Rattle.tables.specs.Blocks.{blockIcons};
+ghost use Rattle.thumbnail_tables.specs.Blocks.{blockIcons};
 ghost use Rattle.thumbnails.specs.Blocks.{changeFrom};
 ghost use Rattle.thumbnails.specs.Cells.{noCell, isIn, Covers, Seen};
 
 // Sets a pixel; none outside the thumbnail, and none in row 0.
 fn set_pixel(icon: &mut [u8], x: usize, y: usize)
     requires { ⌜ length (now icon) ≡ 228 ⌝ }
-    ensures { λ _. ⌜ now (icon .exit) ≡ pixel (now (icon .entry)) x y ⌝ }
+    ensures { λ _. ⌜ left icon ≡ pixel (was icon) x y ⌝ }
 {
     if 48 <= x {
         return;
@@ -105,7 +106,7 @@ fn cell_of(x: usize, y: usize) -> Cell
 // Paints the place of a stitch, unless it lies in the cell painted last. Answers the cell painted last.
 fn paint(s: Scale, icon: &mut [u8], last: Cell, x: i32, y: i32) -> Cell
     requires { ⌜ (length (now icon) ≡ 228) × Seen last (now icon) ⌝ }
-    ensures { λ r. ⌜ (now (icon .exit) ≡ painted s (now (icon .entry)) x y) × Seen r (now (icon .exit)) ⌝ }
+    ensures { λ r. ⌜ (left icon ≡ painted s (was icon) x y) × Seen r (left icon) ⌝ }
 {
     let across = scaled(x, s.scale, s.tx);
     let down = scaled(y, s.scale, s.ty);
@@ -121,7 +122,7 @@ fn paint(s: Scale, icon: &mut [u8], last: Cell, x: i32, y: i32) -> Cell
 // A stitch paints its place, any other command nothing.
 fn mark(s: Scale, icon: &mut [u8], last: Cell, op: Op, x: i32, y: i32) -> Cell
     requires { ⌜ (length (now icon) ≡ 228) × Seen last (now icon) ⌝ }
-    ensures { λ r. ⌜ (now (icon .exit) ≡ marked s (now (icon .entry)) op x y) × Seen r (now (icon .exit)) ⌝ }
+    ensures { λ r. ⌜ (left icon ≡ marked s (was icon) op x y) × Seen r (left icon) ⌝ }
 {
     let Op::Stitch = op else {
         return last;
@@ -132,7 +133,7 @@ fn mark(s: Scale, icon: &mut [u8], last: Cell, op: Op, x: i32, y: i32) -> Cell
 // The thumbnail of the commands from `from` to before `to`.
 fn draw_scaled(s: Scale, xs: &[i32], ys: &[i32], kinds: &[u8], from: usize, to: usize) -> [u8; 228]
     requires { ⌜ (from ≤ to) × (to ≤ length (commands (now xs) (now ys) (now kinds))) ⌝ }
-    ensures { λ r. ⌜ r ≡ drawn s blankIcon (slice from to (commands (now (xs .entry)) (now (ys .entry)) (now (kinds .entry)))) ⌝ }
+    ensures { λ r. ⌜ r ≡ drawn s blankIcon (slice from to (commands (was xs) (was ys) (was kinds))) ⌝ }
 {
     let mut icon = pec_icon_blank();
     let mut last = no_cell();
@@ -157,7 +158,7 @@ fn is_change(op: Op) -> bool
 // Where the colour block that begins at `from` ends: at the next colour change, or at the end of the list.
 fn block_end(xs: &[i32], ys: &[i32], kinds: &[u8], from: usize) -> usize
     requires { ⌜ from ≤ length (commands (now xs) (now ys) (now kinds)) ⌝ }
-    ensures { λ r. ⌜ r ≡ from + changeFrom (drop from (commands (now (xs .entry)) (now (ys .entry)) (now (kinds .entry)))) ⌝ }
+    ensures { λ r. ⌜ r ≡ from + changeFrom (drop from (commands (was xs) (was ys) (was kinds))) ⌝ }
 {
     let n = list_len(xs, ys, kinds);
     let mut i = from;
@@ -172,7 +173,7 @@ fn block_end(xs: &[i32], ys: &[i32], kinds: &[u8], from: usize) -> usize
 
 fn put_icon(icon: [u8; 228], out: &mut [u8], at: usize) -> usize
     requires { ⌜ at + 228 ≤ length (now out) ⌝ }
-    ensures { λ r. ⌜ Put (now (out .entry)) (now (out .exit)) at r icon ⌝ }
+    ensures { λ r. ⌜ Puts out at r icon ⌝ }
 {
     put_text(out, at, &icon)
 }
@@ -180,7 +181,7 @@ fn put_icon(icon: [u8; 228], out: &mut [u8], at: usize) -> usize
 // A thumbnail for each colour block.
 fn put_blocks(s: Scale, xs: &[i32], ys: &[i32], kinds: &[u8], out: &mut [u8], at: usize) -> usize
     requires { ⌜ at + length (blockIcons s (commands (now xs) (now ys) (now kinds))) ≤ length (now out) ⌝ }
-    ensures { λ r. ⌜ Put (now (out .entry)) (now (out .exit)) at r (blockIcons s (commands (now (xs .entry)) (now (ys .entry)) (now (kinds .entry)))) ⌝ }
+    ensures { λ r. ⌜ Puts out at r (blockIcons s (commands (was xs) (was ys) (was kinds))) ⌝ }
 {
     let n = list_len(xs, ys, kinds);
     let mut from = 0;
@@ -240,7 +241,7 @@ fn put_plainly(
     at: usize,
 ) -> usize
     requires { ⌜ at + (228 + length (blockIcons part (commands (now xs) (now ys) (now kinds)))) ≤ length (now out) ⌝ }
-    ensures { λ r. ⌜ Put (now (out .entry)) (now (out .exit)) at r (drawn whole blankIcon (commands (now (xs .entry)) (now (ys .entry)) (now (kinds .entry))) ++ blockIcons part (commands (now (xs .entry)) (now (ys .entry)) (now (kinds .entry)))) ⌝ }
+    ensures { λ r. ⌜ Puts out at r (drawn whole blankIcon (commands (was xs) (was ys) (was kinds)) ++ blockIcons part (commands (was xs) (was ys) (was kinds))) ⌝ }
 {
     let n = list_len(xs, ys, kinds);
     let blocks = put_icon(draw_scaled(whole, xs, ys, kinds, 0, n), out, at);
@@ -258,7 +259,7 @@ pub fn put_icons(
 ) -> usize
     requires { ⌜ b ≡ boundsOf (commands (now xs) (now ys) (now kinds)) ⌝ }
     requires { ⌜ at + length (icons (commands (now xs) (now ys) (now kinds))) ≤ length (now out) ⌝ }
-    ensures { λ r. ⌜ Put (now (out .entry)) (now (out .exit)) at r (icons (commands (now (xs .entry)) (now (ys .entry)) (now (kinds .entry)))) ⌝ }
+    ensures { λ r. ⌜ Puts out at r (icons (commands (was xs) (was ys) (was kinds))) ⌝ }
 {
     let n = list_len(xs, ys, kinds);
     let whole = scale_of(b.min.x, b.min.y, b.max.x, b.max.y, 4.0);

@@ -8,7 +8,9 @@ use Rattle.dst.proofs.put_counts.Statement.{statement}
 use Rattle.dst.proofs.put_counts.Tie as tie
 
 put-number-requires-2 : tie.Need-put-number-requires-2
-put-number-requires-2 c κs = (omega arith, omega (arith, after-put (number-line 0x53 0x54 7 (c .before .before .before .before .before .before .args .records)) (c .before .before .before .put-number .ensures), c .before .before .before .before .before .before .pre))
+put-number-requires-2 c κs =
+    let put-number = c .before .before .before .put-number in let start = c .before .before .before .before .before .before in
+    (omega arith, omega (arith, after-put (number-line 0x53 0x54 7 (start .args .records)) (put-number .ensures), start .pre))
 
 returns : tie.Need-returns
 unfolding joined

@@ -8,7 +8,10 @@ use Rattle.dst.proofs.put_end.Tie as tie
 
 returns : tie.Need-returns
 unfolding line joined
-returns c = put-put (c .before .before .before .before .before .before .before .before .before .before .put3 .ensures) (put-put (c .before .before .before .before .before .before .put-times .ensures) (c .before .before .put2 .ensures))
+returns c =
+    let put-times = c .before .before .before .before .before .before .put-times in
+    let put3 = c .before .before .before .before .before .before .before .before .before .before .put3 in
+    put-put (put3 .ensures) (put-put (put-times .ensures) (c .before .before .put2 .ensures))
 
 pub put-end-spec : {M : Type 1} → statement M
 put-end-spec =

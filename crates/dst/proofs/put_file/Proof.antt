@@ -18,20 +18,41 @@ put-text-of-requires c κs =
 
 put-times-requires : tie.Need-put-times-requires
 put-times-requires c κs =
-    let a = c .before .before .before .before .before .before .before .before .args in
+    let put-text-of = c .before .before .before .put-text-of in let start = c .before .before .before .before .before .before .before .before in
+    let a = start .args in
     let cs = commands (now (a .xs)) (now (a .ys)) (now (a .kinds)) in
-    omega (arith, length-file (now (a .name)) cs, length-text (now (a .name)) cs, c .before .before .before .put-text-of .ensures .ends, put-length (c .before .before .before .put-text-of .ensures), c .before .before .before .before .before .before .before .before .pre .1)
+    omega (arith, length-file (now (a .name)) cs, length-text (now (a .name)) cs, put-text-of .ensures .ends, put-length (put-text-of .ensures), start .pre .1)
 
 put-stream-requires : tie.Need-put-stream-requires
 put-stream-requires c κs =
-    let a = c .before .before .before .before .before .before .before .before .before .before .before .before .args in
-    let cs = commands (now (a .xs)) (now (a .ys)) (now (a .kinds)) in
-    (c .before .before .before .before .before .before .before .before .before .before .before .before .pre .0 .1, omega (arith, length-file (now (a .name)) cs, length-text (now (a .name)) cs, c .before .before .before .before .before .before .before .put-text-of .ensures .ends, put-length (c .before .before .before .before .before .before .before .put-text-of .ensures), c .before .before .before .put-times .ensures .ends, put-length (c .before .before .before .put-times .ensures), length-replicate {A = ℕ} 387 0x20, c .before .before .before .before .before .before .before .before .before .before .before .before .pre .1))
+    let put-times = c .before .before .before .put-times in
+    let put-text-of = c .before .before .before .before .before .before .before .put-text-of in
+    let start = c .before .before .before .before .before .before .before .before .before .before .before .before in
+    let a = start .args in
+    let cs = commands (now (a .xs)) (now (a .ys)) (now (a .kinds)) in (
+      start .pre .0 .1,
+      omega (
+        arith,
+        length-file (now (a .name)) cs,
+        length-text (now (a .name)) cs,
+        put-text-of .ensures .ends,
+        put-length (put-text-of .ensures),
+        put-times .ensures .ends,
+        put-length (put-times .ensures),
+        length-replicate {A = ℕ} 387 0x20,
+        start .pre .1,
+      ),
+    )
 
 returns : tie.Need-returns
 returns c =
-    let a = c .before .before .before .before .before .before .before .before .before .before .before .before .before .before .before .args in
-    put-as (put-put (c .before .before .before .before .before .before .before .before .before .before .put-text-of .ensures) (put-put (c .before .before .before .before .before .before .put-times .ensures) (c .before .before .put-stream .ensures))) (file-is (now (a .name)) (commands (now (a .xs)) (now (a .ys)) (now (a .kinds))))
+    let put-times = c .before .before .before .before .before .before .put-times in
+    let put-text-of = c .before .before .before .before .before .before .before .before .before .before .put-text-of in
+    let early = c .before .before .before .before .before .before .before .before .before .before .before .before in
+    let start = early .before .before .before in
+    let a = start .args in
+    put-as (put-put (put-text-of .ensures) (put-put (put-times .ensures) (c .before .before .put-stream .ensures)))
+    (file-is (now (a .name)) (commands (now (a .xs)) (now (a .ys)) (now (a .kinds))))
 
 pub put-file-spec : {M : Type 1} → statement M
 put-file-spec =

@@ -9,11 +9,17 @@ use Rattle.dst.proofs.put_label.Tie as tie
 
 put-requires : tie.Need-put-requires
 unfolding dstName
-put-requires c κs = omega (arith, after-put (length-name (now (c .before .before .before .before .before .before .before .before .before .before .before .args .name))) (c .before .before .before .put-name .ensures), c .before .before .before .before .before .before .before .put3 .ensures .ends, c .before .before .before .before .before .before .before .put3 .kept .0, c .before .before .before .before .before .before .before .before .before .before .before .pre)
+put-requires c κs =
+    let put-name = c .before .before .before .put-name in let put3 = c .before .before .before .before .before .before .before .put3 in
+    let start = c .before .before .before .before .before .before .before .before .before .before .before in
+    omega (arith, after-put (length-name (now (start .args .name))) (put-name .ensures), put3 .ensures .ends, put3 .kept .0, start .pre)
 
 returns : tie.Need-returns
 unfolding dstName
-returns c = put-line (c .before .before .before .before .before .before .before .before .before .before .put3 .ensures) (c .before .before .before .before .before .before .put-name .ensures) (c .before .before .put .ensures)
+returns c =
+    let put-name = c .before .before .before .before .before .before .put-name in
+    let put3 = c .before .before .before .before .before .before .before .before .before .before .put3 in
+    put-line (put3 .ensures) (put-name .ensures) (c .before .before .put .ensures)
 
 pub put-label-spec : {M : Type 1} → statement M
 put-label-spec =

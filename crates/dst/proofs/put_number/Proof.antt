@@ -7,10 +7,16 @@ use Rattle.dst.proofs.put_number.Statement.{statement}
 use Rattle.dst.proofs.put_number.Tie as tie
 
 put-requires : tie.Need-put-requires
-put-requires c κs = omega (arith, c .before .before .before .put-right .ensures .ends, length-right (c .before .before .before .before .before .before .before .before .before .before .args .n) (c .before .before .before .before .before .before .before .before .before .before .args .v), c .before .before .before .put-right .kept .0, c .before .before .before .before .before .before .before .put3 .ensures .ends, c .before .before .before .before .before .before .before .put3 .kept .0, c .before .before .before .before .before .before .before .before .before .before .pre .1)
+put-requires c κs =
+    let put-right = c .before .before .before .put-right in let put3 = c .before .before .before .before .before .before .before .put3 in
+    let start = c .before .before .before .before .before .before .before .before .before .before in
+    omega (arith, put-right .ensures .ends, length-right (start .args .n) (start .args .v), put-right .kept .0, put3 .ensures .ends, put3 .kept .0, start .pre .1)
 
 returns : tie.Need-returns
-returns c = put-line (c .before .before .before .before .before .before .before .before .before .before .put3 .ensures) (c .before .before .before .before .before .before .put-right .ensures) (c .before .before .put .ensures)
+returns c =
+    let put-right = c .before .before .before .before .before .before .put-right in
+    let put3 = c .before .before .before .before .before .before .before .before .before .before .put3 in
+    put-line (put3 .ensures) (put-right .ensures) (c .before .before .put .ensures)
 
 pub put-number-spec : {M : Type 1} → statement M
 put-number-spec =

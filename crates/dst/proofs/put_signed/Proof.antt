@@ -9,10 +9,23 @@ use Rattle.dst.proofs.put_signed.Statement.{statement}
 use Rattle.dst.proofs.put_signed.Tie as tie
 
 put-requires-2 : tie.Need-put-requires-2
-put-requires-2 c κs = omega (arith, c .before .before .before .put-right .ensures .ends, length-right 5 (c .before .before .before .before .size .result), c .before .before .before .put-right .kept .0, c .before .before .before .before .before .before .before .before .put .ensures .ends, c .before .before .before .before .before .before .before .before .put .kept .0, c .before .before .before .before .before .before .before .before .before .before .before .before .before .put3 .ensures .ends, c .before .before .before .before .before .before .before .before .before .before .before .before .before .put3 .kept .0, c .before .before .before .before .before .before .before .before .before .before .before .before .before .before .before .before .pre .1)
+put-requires-2 c κs =
+    let put-right = c .before .before .before .put-right in let size = c .before .before .before .before .size in
+    let put = c .before .before .before .before .before .before .before .before .put in
+    let at-put3 = c .before .before .before .before .before .before .before .before .before .before .before .before .before in
+    let put3 = at-put3 .put3 in let start = at-put3 .before .before .before in
+    omega (arith, put-right .ensures .ends, length-right 5 (size .result), put-right .kept .0, put .ensures .ends, put .kept .0, put3 .ensures .ends, put3 .kept .0, start .pre .1)
 
 returns : tie.Need-returns
-returns c = put-line (c .before .before .before .before .before .before .before .before .before .before .before .before .before .before .before .before .put3 .ensures) (put-as (put-put (c .before .before .before .before .before .before .before .before .before .before .before .put .ensures) (c .before .before .before .before .before .before .put-right .ensures)) (signed-text (c .before .before .before .before .before .before .before .before .before .before .before .before .before .before .before .before .before .before .before .args .z) (rw (toZ-ofZ (c .before .before .before .before .before .before .before .before .before .before .before .before .before .before .before .before .before .before .before .fits .z)) at (c .before .before .before .before .before .before .before .before .before .before .before .before .sign-of .ensures)) (rw (toZ-ofZ (c .before .before .before .before .before .before .before .before .before .before .before .before .before .before .before .before .before .before .before .fits .z)) at (c .before .before .before .before .before .before .before .size .ensures)))) (c .before .before .put2 .ensures)
+returns c =
+    let put-right = c .before .before .before .before .before .before .put-right in
+    let size = c .before .before .before .before .before .before .before .size in
+    let at-put = c .before .before .before .before .before .before .before .before .before .before .before in let put = at-put .put in
+    let sign-of = at-put .before .sign-of in let put3 = at-put .before .before .before .before .before .put3 in
+    let start = at-put .before .before .before .before .before .before .before .before in
+    put-line (put3 .ensures) (put-as (put-put (put .ensures) (put-right .ensures))
+    (signed-text (start .args .z) (rw (toZ-ofZ (start .fits .z)) at (sign-of .ensures)) (rw (toZ-ofZ (start .fits .z)) at (size .ensures))))
+    (c .before .before .put2 .ensures)
 
 pub put-signed-spec : {M : Type 1} → statement M
 put-signed-spec =

@@ -36,26 +36,10 @@ turn c t e =
     count-more trimming cs noCmd i (l .loop .found) (l .loop .inv .1 .1) t h
     (ap trimming (commands-at (now (a .xs)) (now (a .ys)) (now (a .kinds)) i h) ∙ sym (c .is-trim .ensures) ∙ e)
 
-list-len-requires : tie.Need-list-len-requires Inv-loop μ-loop
-list-len-requires c κs = tt
-
-loop-holds : tie.Need-loop-holds Inv-loop μ-loop
-loop-holds c = (omega arith, (omega arith, omega arith))
-
 shared-slice-read-is-trim : tie.Need-shared-slice-read-is-trim Inv-loop μ-loop
-shared-slice-read-is-trim c = let a = c .before .before .before .before .before .args in omega (arith, c .before .before .before .list-len .ensures, length-commands (now (a .xs)) (now (a .ys)) (now (a .kinds)))
-
-is-trim-requires : tie.Need-is-trim-requires Inv-loop μ-loop
-is-trim-requires c κs = tt
-
-add-found : tie.Need-add-found Inv-loop μ-loop
-add-found c = omega arith
-
-add-i : tie.Need-add-i Inv-loop μ-loop
-add-i c = omega arith
-
-loop-less : tie.Need-loop-less Inv-loop μ-loop
-loop-less c = omega arith
+shared-slice-read-is-trim c =
+    let list-len = c .before .before .before .list-len in let start = c .before .before .before .before .before in
+    let a = start .args in omega (arith, list-len .ensures, length-commands (now (a .xs)) (now (a .ys)) (now (a .kinds)))
 
 loop-again : tie.Need-loop-again Inv-loop μ-loop
 loop-again c =
@@ -66,15 +50,16 @@ loop-again c =
 
 returns : tie.Need-returns Inv-loop μ-loop
 returns c =
-    let a = c .before .before .before .before .args in
+    let list-len = c .before .before .list-len in let start = c .before .before .before .before in
+    let a = start .args in
     let cs = commands (now (a .xs)) (now (a .ys)) (now (a .kinds)) in (
-      count-end trimming cs noCmd (c .before .loop .i) (c .before .loop .found) (c .before .loop .inv .1 .1) (omega (arith, c .before .before .list-len .ensures)),
-      omega (arith, c .before .before .list-len .ensures, length-commands (now (a .xs)) (now (a .ys)) (now (a .kinds))),
+      count-end trimming cs noCmd (c .before .loop .i) (c .before .loop .found) (c .before .loop .inv .1 .1) (omega (arith, list-len .ensures)),
+      omega (arith, list-len .ensures, length-commands (now (a .xs)) (now (a .ys)) (now (a .kinds))),
     )
 
 pub trims-spec : {M : Type 1} → statement M
 trims-spec =
     tie.close
     (tie.spec
-    Inv-loop μ-loop list-len-requires loop-holds shared-slice-read-is-trim is-trim-requires add-found add-i
-    loop-less loop-again returns)
+    Inv-loop μ-loop (λ c κs. tt) (λ c. (omega arith, (omega arith, omega arith))) shared-slice-read-is-trim (λ c κs. tt) (λ c. omega arith)
+    (λ c. omega arith) (λ c. omega arith) loop-again returns)

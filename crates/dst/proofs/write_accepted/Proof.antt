@@ -1,6 +1,6 @@
 -- By the length of the file.
-use Rattle.encode.proofs.Lengths.{stream-most}
-use Rattle.encode_cmd.specs.declared.Stream.the-variants.{Dst}
+use Rattle.stream.proofs.Lengths.{stream-most}
+use Rattle.stream_cmd.specs.declared.Stream.the-variants.{Dst}
 use native.Mathlib.Omega.{arith}
 use denote.Ref.{now}
 use Rattle.rules.specs.Lists.{commands}
@@ -23,15 +23,18 @@ returns c =
 
 put-file-requires : tie.Need-put-file-requires
 put-file-requires c κs =
-    let a = c .before .before .before .before .before .before .args in
+    let start = c .before .before .before .before .before .before in
+    let a = start .args in
     let cs = commands (now (a .xs)) (now (a .ys)) (now (a .kinds)) in
-    (c .before .before .before .before .before .before .pre, omega (arith, length-file (now (a .name)) cs, c .before .before .stream-len .ensures, c .before .if1 .left))
+    (start .pre, omega (arith, length-file (now (a .name)) cs, c .before .before .stream-len .ensures, c .before .if1 .left))
 
 returns-2 : tie.Need-returns-2
 returns-2 c =
-    let a = c .before .before .before .before .before .before .before .before .before .args in
+    let if1 = c .before .before .before .before .if1 in let stream-len = c .before .before .before .before .before .stream-len in
+    let start = c .before .before .before .before .before .before .before .before .before in
+    let a = start .args in
     let cs = commands (now (a .xs)) (now (a .ys)) (now (a .kinds)) in
-    written (omega (arith, length-file (now (a .name)) cs, c .before .before .before .before .before .stream-len .ensures, c .before .before .before .before .if1 .left)) (c .before .before .put-file .ensures)
+    written (omega (arith, length-file (now (a .name)) cs, stream-len .ensures, if1 .left)) (c .before .before .put-file .ensures)
 
 pub write-accepted-spec : {M : Type 1} → statement M
 write-accepted-spec =

@@ -19,7 +19,8 @@ returns c = rw (c .if1 .taken) (omega arith)
 
 returns-2 : tie.Need-returns-2
 unfolding digitAt
-returns-2 c = let a = c .before .before .args in rw (lt-ltb 0 (a .k) (omega (arith, c .before .if1 .left)), lt-ltb (a .v) (10 ^ a .k) (rw (← tens (a .k) (c .before .before .pre)) (c .if2 .taken)))
+returns-2 c = let a = c .before .before .args in rw
+    (lt-ltb 0 (a .k) (omega (arith, c .before .if1 .left)), lt-ltb (a .v) (10 ^ a .k) (rw (← tens (a .k) (c .before .before .pre)) (c .if2 .taken)))
 
 div-result : tie.Need-div-result
 div-result c = let k = c .before .before .args .k in rw (tens k (c .before .before .pre)) (ten-some k)

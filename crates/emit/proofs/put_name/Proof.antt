@@ -42,83 +42,84 @@ module _ {d₀ whole d coming : List ℕ} {base n : ℕ} (k : ℕ) (w : Writing 
   last p = writing-done {coming = []} (writing-more w all p) refl
 
 abbrev Inv-loop : tie.InvT-loop
-Inv-loop name low high most out₀ at fill left₀ to₀ i₀ out left to i = Writing out₀ at (padded 16 (take most (keep (within low high) name))) out to (coming (within low high) (16 - most) left (drop i name))
+Inv-loop name low high most out₀ at fill left₀ to₀ i₀ out left to i = Writing out₀ at (padded 16 (take most (keep (within low high) name))) out to
+    (coming (within low high) (16 - most) left (drop i name))
 
 abbrev μ-loop : tie.MeasureT-loop
 μ-loop name low high most out₀ at fill left₀ to₀ i₀ out left to i = length name - i
 
-sub-fill : tie.Need-sub-fill Inv-loop μ-loop
-sub-fill c = c .before .before .pre .0
-
 loop-holds : tie.Need-loop-holds Inv-loop μ-loop
 loop-holds c =
+    let start′ = c .before .before in
     let a = c .before .before .args in
     let p = within (a .low) (a .high) in
-    rw (← start p (a .most) (now (a .name)) (c .before .before .pre .0)) (writing-start (now (a .out)) (a .at) (padded 16 (take (a .most) (keep p (now (a .name))))) (omega (arith, c .before .before .pre, sixteen p (a .most) (now (a .name)) (c .before .before .pre .0))))
+    rw (← start p (a .most) (now (a .name)) (start′ .pre .0))
+    (writing-start (now (a .out)) (a .at) (padded 16 (take (a .most) (keep p (now (a .name)))))
+    (omega (arith, start′ .pre, sixteen p (a .most) (now (a .name)) (start′ .pre .0))))
 
 put-times-requires : tie.Need-put-times-requires Inv-loop μ-loop
 put-times-requires c κs =
-    let a = c .before .before .before .before .before .before .args in
-    let l = c .before .before .before .loop in
+    let l = c .before .before .before .loop in let start′ = c .before .before .before .before .before .before in
+    let a = start′ .args in
     room (16 - a .most) (l .inv) (name-full (within (a .low) (a .high)) (16 - a .most) (l .left) (drop (l .i) (now (a .name))) (c .before .if1 .taken) ∙ rw add-zero)
 
 returns : tie.Need-returns Inv-loop μ-loop
 returns c =
-    let a = c .before .before .before .before .before .before .before .before .before .args in
-    let l = c .before .before .before .before .before .before .loop in
-    last (16 - a .most) (l .inv) (name-full (within (a .low) (a .high)) (16 - a .most) (l .left) (drop (l .i) (now (a .name))) (c .before .before .before .before .if1 .taken) ∙ rw add-zero) (c .before .before .put-times .ensures)
-
-same-length : tie.Need-same-length Inv-loop μ-loop
-same-length c = put-length (returns c)
-
-shared-slice-read-b : tie.Need-shared-slice-read-b Inv-loop μ-loop
-shared-slice-read-b c = c .before .before .loop-test .taken
-
-add-i : tie.Need-add-i Inv-loop μ-loop
-add-i c = omega (arith, c .before .before .loop-test .taken)
-
-stays-requires : tie.Need-stays-requires Inv-loop μ-loop
-stays-requires c κs = tt
-
-loop-less : tie.Need-loop-less Inv-loop μ-loop
-loop-less c = omega (arith, c .before .before .before .before .loop-test .taken)
+    let if1 = c .before .before .before .before .if1 in let l = c .before .before .before .before .before .before .loop in
+    let start′ = c .before .before .before .before .before .before .before .before .before in
+    let a = start′ .args in
+    last (16 - a .most) (l .inv) (name-full (within (a .low) (a .high)) (16 - a .most) (l .left) (drop (l .i) (now (a .name))) (if1 .taken) ∙ rw add-zero)
+    (c .before .before .put-times .ensures)
 
 loop-again : tie.Need-loop-again Inv-loop μ-loop
 loop-again c =
-    let a = c .before .before .before .before .before .before .before .before .args in
-    let l = c .before .before .before .before .before .loop in
-    rw (← name-skip (within (a .low) (a .high)) (16 - a .most) (l .left) (l .i) (now (a .name)) (c .before .before .before .before .loop-test .taken) (sym (c .before .stays .ensures) ∙ not-true (c .before .stays .result) (c .if2 .taken))) (l .inv)
+    let loop-test = c .before .before .before .before .loop-test in let l = c .before .before .before .before .before .loop in
+    let start′ = c .before .before .before .before .before .before .before .before in
+    let a = start′ .args in
+    rw (← name-skip (within (a .low) (a .high)) (16 - a .most) (l .left) (l .i) (now (a .name)) (loop-test .taken)
+    (sym (c .before .stays .ensures) ∙ not-true (c .before .stays .result) (c .if2 .taken))) (l .inv)
 
 put-requires : tie.Need-put-requires Inv-loop μ-loop
 put-requires c κs =
-    let a = c .before .before .before .before .before .before .before .before .before .args in
+    let stays′ = c .before .before .stays in let if1 = c .before .before .before .before .if1 in
+    let loop-test = c .before .before .before .before .before .loop-test in let l = c .before .before .before .before .before .before .loop in
+    let start′ = c .before .before .before .before .before .before .before .before .before in
+    let a = start′ .args in
     let s = now (a .name) in
     let p = within (a .low) (a .high) in
-    let l = c .before .before .before .before .before .before .loop in
     writing-room (getD s (l .i) 0 ∷ []) (coming p (16 - a .most) (l .left - 1) (drop (l .i + 1) s)) (l .inv)
-    (name-more p (16 - a .most) (l .left) (l .i) s (positive (l .left) (c .before .before .before .before .if1 .left)) (c .before .before .before .before .before .loop-test .taken) (sym (c .before .before .stays .ensures) ∙ not-false (c .before .before .stays .result) (c .before .if2 .left)))
+    (name-more p (16 - a .most) (l .left) (l .i) s (positive (l .left) (if1 .left)) (loop-test .taken) (sym (stays′ .ensures) ∙ not-false (stays′ .result) (c .before .if2 .left)))
 
 sub-left : tie.Need-sub-left Inv-loop μ-loop
-sub-left c = positive (c .before .before .before .before .before .before .before .before .before .loop .left) (c .before .before .before .before .before .before .before .if1 .left)
+sub-left c =
+    let if1 = c .before .before .before .before .before .before .before .if1 in
+    let loop = c .before .before .before .before .before .before .before .before .before .loop in
+    positive (loop .left) (if1 .left)
 
 loop-less-2 : tie.Need-loop-less-2 Inv-loop μ-loop
 loop-less-2 c = omega (arith, c .before .before .before .before .before .before .before .before .loop-test .taken)
 
 loop-again-2 : tie.Need-loop-again-2 Inv-loop μ-loop
 loop-again-2 c =
-    let a = c .before .before .before .before .before .before .before .before .before .before .before .before .args in
-    let s = now (a .name) in
+    let if2 = c .before .before .before .before .if2 in let stays′ = c .before .before .before .before .before .stays in
+    let if1 = c .before .before .before .before .before .before .before .if1 in
+    let loop-test = c .before .before .before .before .before .before .before .before .loop-test in
     let l = c .before .before .before .before .before .before .before .before .before .loop in
+    let start′ = c .before .before .before .before .before .before .before .before .before .before .before .before in
+    let a = start′ .args in
+    let s = now (a .name) in
     writing-more {vs = getD s (l .i) 0 ∷ []} (l .inv)
-    (name-more (within (a .low) (a .high)) (16 - a .most) (l .left) (l .i) s (positive (l .left) (c .before .before .before .before .before .before .before .if1 .left)) (c .before .before .before .before .before .before .before .before .loop-test .taken) (sym (c .before .before .before .before .before .stays .ensures) ∙ not-false (c .before .before .before .before .before .stays .result) (c .before .before .before .before .if2 .left)))
+    (name-more (within (a .low) (a .high)) (16 - a .most) (l .left) (l .i) s (positive (l .left) (if1 .left)) (loop-test .taken)
+    (sym (stays′ .ensures) ∙ not-false (stays′ .result) (if2 .left)))
     (c .before .before .put .ensures)
 
 add-put-times : tie.Need-add-put-times Inv-loop μ-loop
 add-put-times c =
-    let a = c .before .before .before .before .before .args in
+    let start′ = c .before .before .before .before .before in
+    let a = start′ .args in
     let l = c .before .before .loop in
     let p = within (a .low) (a .high) in
-    omega (arith, c .before .before .before .before .before .pre, length-coming p (16 - a .most) (l .left) (drop (l .i) (now (a .name))), l .inv .place, l .inv .room, sixteen p (a .most) (now (a .name)) (c .before .before .before .before .before .pre .0))
+    omega (arith, start′ .pre, length-coming p (16 - a .most) (l .left) (drop (l .i) (now (a .name))), l .inv .place, l .inv .room, sixteen p (a .most) (now (a .name)) (start′ .pre .0))
 
 put-times-requires-2 : tie.Need-put-times-requires-2 Inv-loop μ-loop
 put-times-requires-2 c κs =
@@ -128,17 +129,16 @@ put-times-requires-2 c κs =
 
 returns-2 : tie.Need-returns-2 Inv-loop μ-loop
 returns-2 c =
-    let a = c .before .before .before .before .before .before .before .before .args in
-    let l = c .before .before .before .before .before .loop in
-    last (16 - a .most + l .left) (l .inv) (name-end (within (a .low) (a .high)) (16 - a .most) (l .left) (l .i) (now (a .name)) (c .before .before .before .before .loop-test .left)) (c .before .before .put-times2 .ensures)
-
-same-length-2 : tie.Need-same-length-2 Inv-loop μ-loop
-same-length-2 c = put-length (returns-2 c)
+    let loop-test = c .before .before .before .before .loop-test in let l = c .before .before .before .before .before .loop in
+    let start′ = c .before .before .before .before .before .before .before .before in
+    let a = start′ .args in
+    last (16 - a .most + l .left) (l .inv) (name-end (within (a .low) (a .high)) (16 - a .most) (l .left) (l .i) (now (a .name)) (loop-test .left)) (c .before .before .put-times2 .ensures)
 
 pub put-name-spec : {M : Type 1} → statement M
 put-name-spec =
     tie.close
     (tie.spec
-    Inv-loop μ-loop sub-fill loop-holds put-times-requires same-length returns shared-slice-read-b add-i
-    stays-requires loop-less loop-again put-requires sub-left loop-less-2 loop-again-2 add-put-times
-    put-times-requires-2 same-length-2 returns-2)
+    Inv-loop μ-loop (λ c. c .before .before .pre .0) loop-holds put-times-requires (λ c. put-length (returns c)) returns
+    (λ c. c .before .before .loop-test .taken) (λ c. omega (arith, c .before .before .loop-test .taken)) (λ c κs. tt)
+    (λ c. omega (arith, c .before .before .before .before .loop-test .taken)) loop-again put-requires sub-left loop-less-2 loop-again-2
+    add-put-times put-times-requires-2 (λ c. put-length (returns-2 c)) returns-2)

@@ -20,16 +20,20 @@ abbrev μ-loop : tie.MeasureT-loop
 μ-loop out₀ at n v left₀ to₀ out left to = left
 
 loop-holds : tie.Need-loop-holds Inv-loop μ-loop
-loop-holds c = let a = c .before .args in (writing-start (now (a .out)) (a .at) (right (a .n) (a .v)) (omega (arith, c .before .pre, length-right (c .before .args .n) (c .before .args .v))), c .before .pre .0)
-
-sub-digit-at : tie.Need-sub-digit-at Inv-loop μ-loop
-sub-digit-at c = omega (arith, c .before .loop-test .taken)
-
-digit-at-requires : tie.Need-digit-at-requires Inv-loop μ-loop
-digit-at-requires c κs = omega (arith, c .before .before .loop .inv .1)
+loop-holds c = let a = c .before .args in (
+  writing-start (now (a .out)) (a .at) (right (a .n) (a .v)) (omega (
+    arith,
+    c .before .pre,
+    length-right (c .before .args .n) (c .before .args .v),
+  )),
+  c .before .pre .0,
+)
 
 put-requires : tie.Need-put-requires Inv-loop μ-loop
-put-requires c κs = let a = c .before .before .before .before .before .args in writing-room (digitAt (c .before .before .before .loop .left - 1) (a .v) ∷ []) (right (c .before .before .before .loop .left - 1) (a .v)) (c .before .before .before .loop .inv .0) (right-more (c .before .before .before .loop .left) (a .v) (c .before .before .loop-test .taken))
+put-requires c κs =
+    let loop = c .before .before .before .loop in let start = c .before .before .before .before .before in
+    let a = start .args in writing-room (digitAt (loop .left - 1) (a .v) ∷ []) (right (loop .left - 1) (a .v)) (loop .inv .0)
+    (right-more (loop .left) (a .v) (c .before .before .loop-test .taken))
 
 sub-left : tie.Need-sub-left Inv-loop μ-loop
 sub-left c = omega (arith, c .before .before .before .before .before .loop-test .taken)
@@ -38,10 +42,15 @@ loop-less : tie.Need-loop-less Inv-loop μ-loop
 loop-less c = omega (arith, c .before .before .before .before .before .loop-test .taken)
 
 loop-again : tie.Need-loop-again Inv-loop μ-loop
-loop-again c = let a = c .before .before .before .before .before .before .before .before .args in (writing-more {vs = digitAt (c .before .before .before .before .before .before .loop .left - 1) (a .v) ∷ []} (c .before .before .before .before .before .before .loop .inv .0) (right-more (c .before .before .before .before .before .before .loop .left) (a .v) (c .before .before .before .before .before .loop-test .taken)) (rw (c .before .before .before .digit-at .ensures) at (c .before .before .put .ensures)), omega (arith, c .before .before .before .before .before .before .loop .inv .1))
-
-same-length : tie.Need-same-length Inv-loop μ-loop
-same-length c = c .before .loop .inv .0 .same
+loop-again c =
+    let digit-at = c .before .before .before .digit-at in let loop-test = c .before .before .before .before .before .loop-test in
+    let loop = c .before .before .before .before .before .before .loop in
+    let start = c .before .before .before .before .before .before .before .before in
+    let a = start .args in (
+      writing-more {vs = digitAt (loop .left - 1) (a .v) ∷ []} (loop .inv .0) (right-more (loop .left) (a .v) (loop-test .taken))
+          (rw (digit-at .ensures) at (c .before .before .put .ensures)),
+      omega (arith, loop .inv .1),
+    )
 
 returns : tie.Need-returns Inv-loop μ-loop
 unfolding right
@@ -51,5 +60,5 @@ pub put-right-spec : {M : Type 1} → statement M
 put-right-spec =
     tie.close
     (tie.spec
-    Inv-loop μ-loop loop-holds sub-digit-at digit-at-requires put-requires sub-left loop-less loop-again same-length
-    returns)
+    Inv-loop μ-loop loop-holds (λ c. omega (arith, c .before .loop-test .taken)) (λ c κs. omega (arith, c .before .before .loop .inv .1))
+    put-requires sub-left loop-less loop-again (λ c. c .before .loop .inv .0 .same) returns)

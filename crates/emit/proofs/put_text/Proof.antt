@@ -19,11 +19,10 @@ abbrev μ-loop : tie.MeasureT-loop
 loop-holds : tie.Need-loop-holds Inv-loop μ-loop
 loop-holds c = let a = c .before .before .args in writing-start (now (a .out)) (a .at) (now (a .text)) (c .before .before .pre)
 
-shared-slice-read-put : tie.Need-shared-slice-read-put Inv-loop μ-loop
-shared-slice-read-put c = c .before .before .loop-test .taken
-
 put-requires : tie.Need-put-requires Inv-loop μ-loop
-put-requires c κs = let t = now (c .before .before .before .before .before .before .args .text) in writing-room (getD t (c .before .before .before .loop .i) 0 ∷ []) (drop (c .before .before .before .loop .i + 1) t) (c .before .before .before .loop .inv) (text-more t (c .before .before .before .loop .i) 0 (c .before .before .loop-test .taken))
+put-requires c κs =
+    let loop = c .before .before .before .loop in let start = c .before .before .before .before .before .before in
+    let t = now (start .args .text) in writing-room (getD t (loop .i) 0 ∷ []) (drop (loop .i + 1) t) (loop .inv) (text-more t (loop .i) 0 (c .before .before .loop-test .taken))
 
 add-i : tie.Need-add-i Inv-loop μ-loop
 add-i c = omega (arith, c .before .before .before .before .before .loop-test .taken)
@@ -32,10 +31,10 @@ loop-less : tie.Need-loop-less Inv-loop μ-loop
 loop-less c = omega (arith, c .before .before .before .before .before .loop-test .taken)
 
 loop-again : tie.Need-loop-again Inv-loop μ-loop
-loop-again c = let t = now (c .before .before .before .before .before .before .before .before .before .args .text) in writing-more {vs = getD t (c .before .before .before .before .before .before .loop .i) 0 ∷ []} (c .before .before .before .before .before .before .loop .inv) (text-more t (c .before .before .before .before .before .before .loop .i) 0 (c .before .before .before .before .before .loop-test .taken)) (c .before .before .put .ensures)
-
-same-length : tie.Need-same-length Inv-loop μ-loop
-same-length c = c .before .loop .inv .same
+loop-again c =
+    let loop-test = c .before .before .before .before .before .loop-test in let loop = c .before .before .before .before .before .before .loop in
+    let start = c .before .before .before .before .before .before .before .before .before in
+    let t = now (start .args .text) in writing-more {vs = getD t (loop .i) 0 ∷ []} (loop .inv) (text-more t (loop .i) 0 (loop-test .taken)) (c .before .before .put .ensures)
 
 returns : tie.Need-returns Inv-loop μ-loop
 returns c = writing-done (c .before .loop .inv) (list-end (now (c .before .before .before .before .args .text)) (c .before .loop .i) (c .loop-test .left))
@@ -44,4 +43,5 @@ pub put-text-spec : {M : Type 1} → statement M
 put-text-spec =
     tie.close
     (tie.spec
-    Inv-loop μ-loop loop-holds shared-slice-read-put put-requires add-i loop-less loop-again same-length returns)
+    Inv-loop μ-loop loop-holds (λ c. c .before .before .loop-test .taken) put-requires add-i loop-less loop-again
+    (λ c. c .before .loop .inv .same) returns)

@@ -21,22 +21,21 @@ module _ (later : Bool) (c : Color) (best : Best) (i : ℕ) {s : Slot} {t : Colo
   miss : takes later (best .at) (best .distance) d ≡ false → best ≡ closerOf later c best s i
   miss h = rw (e, ← f, h)
 
-returns : tie.Need-returns
-returns c = rw (c .enum-told .given .1)
-
 returns-2 : tie.Need-returns-2
 returns-2 c =
-    let a = c .before .before .before .before .before .before .args in
-    hit true (a .color) (a .best) (a .i) (c .before .before .before .before .s .given .1) (c .before .before .color-distance .ensures) (sym (c .before .takes .ensures) ∙ c .if1 .taken)
+    let s′ = c .before .before .before .before .s in let start = c .before .before .before .before .before .before in
+    let a = start .args in
+    hit true (a .color) (a .best) (a .i) (s′ .given .1) (c .before .before .color-distance .ensures) (sym (c .before .takes .ensures) ∙ c .if1 .taken)
 
 returns-3 : tie.Need-returns-3
 returns-3 c =
-    let a = c .before .before .before .before .before .before .args in
-    miss true (a .color) (a .best) (a .i) (c .before .before .before .before .s .given .1) (c .before .before .color-distance .ensures) (sym (c .before .takes .ensures) ∙ c .if1 .left)
+    let s′ = c .before .before .before .before .s in let start = c .before .before .before .before .before .before in
+    let a = start .args in
+    miss true (a .color) (a .best) (a .i) (s′ .given .1) (c .before .before .color-distance .ensures) (sym (c .before .takes .ensures) ∙ c .if1 .left)
 
 pub closer-spec : {M : Type 1} → statement M
 closer-spec =
     tie.close
     (tie.spec
-    (λ c. search needs) (λ c. search needs) returns (λ c κs. search needs) (λ c κs. search needs) returns-2
+    (λ c. search needs) (λ c. search needs) (λ c. rw (c .enum-told .given .1)) (λ c κs. search needs) (λ c κs. search needs) returns-2
     returns-3)

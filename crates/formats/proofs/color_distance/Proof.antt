@@ -7,7 +7,9 @@ use Rattle.formats.proofs.color_distance.Tie as tie
 
 returns : tie.Need-returns
 unfolding distance
-returns c = c .weighed .ensures ∙ rw (c .before .before .before .before .half-to-even .ensures .0, c .before .before .before .gap .ensures .0, c .before .before .gap2 .ensures .0, c .before .gap3 .ensures .0)
+returns c =
+    let gap = c .before .before .before .gap in let half-to-even = c .before .before .before .before .half-to-even in
+    c .weighed .ensures ∙ rw (half-to-even .ensures .0, gap .ensures .0, c .before .before .gap2 .ensures .0, c .before .gap3 .ensures .0)
 
 pub color-distance-spec : {M : Type 1} → statement M
 color-distance-spec =

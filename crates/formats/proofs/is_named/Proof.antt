@@ -38,8 +38,9 @@ returns c =
 
 returns-2 : tie.Need-returns-2
 returns-2 c =
-    let a = c .before .before .before .before .before .args in
-    rw (three (now (a .ext)) (a .a) (a .b) (a .c) (c .before .before .before .if1 .left), ← c .before .lower .ensures, ne-eqb (c .before .lower .result) (a .a) (c .if2 .taken))
+    let if1 = c .before .before .before .if1 in let start = c .before .before .before .before .before in
+    let a = start .args in
+    rw (three (now (a .ext)) (a .a) (a .b) (a .c) (if1 .left), ← c .before .lower .ensures, ne-eqb (c .before .lower .result) (a .a) (c .if2 .taken))
 
 returns-3 : tie.Need-returns-3
 returns-3 c =

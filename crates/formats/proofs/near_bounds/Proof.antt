@@ -46,49 +46,52 @@ loop-holds c =
     }
 
 -- the turn's index is that of a command
-inside : (c : tie.In-loop Inv-loop μ-loop) → c .before .loop .i < length (commands (now ((c .before .before .before .before .before .args) .xs)) (now ((c .before .before .before .before .before .args) .ys)) (now ((c .before .before .before .before .before .args) .kinds)))
+inside : (c : tie.In-loop Inv-loop μ-loop) → c .before .loop .i < length
+    (commands (now ((c .before .before .before .before .before .args) .xs)) (now ((c .before .before .before .before .before .args) .ys))
+    (now ((c .before .before .before .before .before .args) .kinds)))
 inside c = omega (arith, c .before .loop .inv .whole)
 
 shared-slice-copy-out-x : tie.Need-shared-slice-copy-out-x Inv-loop μ-loop
-shared-slice-copy-out-x c = omega (arith, inside c, length-commands (now ((c .before .before .before .before .before .args) .xs)) (now ((c .before .before .before .before .before .args) .ys)) (now ((c .before .before .before .before .before .args) .kinds)))
+shared-slice-copy-out-x c =
+    let start = c .before .before .before .before .before in
+    omega (arith, inside c, length-commands (now ((start .args) .xs)) (now ((start .args) .ys)) (now ((start .args) .kinds)))
 
 mul-x : tie.Need-mul-x Inv-loop μ-loop
 mul-x c = let h = shared-slice-copy-out-x c in omega (arith, c .before .before .before .before .before .good)
 
 cast-x : tie.Need-cast-x Inv-loop μ-loop
 cast-x c =
-    let a = c .before .before .before .before .before .before .args in
+    let start = c .before .before .before .before .before .before in
+    let a = start .args in
     let i = c .before .before .loop .i in
-    rw (ret w32 (getD (now (a .xs)) i (pos 0)) (c .x .given)) (near-x (now (a .xs)) (now (a .ys)) (now (a .kinds)) (c .before .before .before .before .before .before .pre) i (inside (c .before)))
+    rw (ret w32 (getD (now (a .xs)) i (pos 0)) (c .x .given)) (near-x (now (a .xs)) (now (a .ys)) (now (a .kinds)) (start .pre) i (inside (c .before)))
 
 shared-slice-copy-out-y : tie.Need-shared-slice-copy-out-y Inv-loop μ-loop
-shared-slice-copy-out-y c = omega (arith, inside (c .before), length-commands (now ((c .before .before .before .before .before .before .args) .xs)) (now ((c .before .before .before .before .before .before .args) .ys)) (now ((c .before .before .before .before .before .before .args) .kinds)))
+shared-slice-copy-out-y c =
+    let start = c .before .before .before .before .before .before in
+    omega (arith, inside (c .before), length-commands (now ((start .args) .xs)) (now ((start .args) .ys)) (now ((start .args) .kinds)))
 
 mul-y : tie.Need-mul-y Inv-loop μ-loop
 mul-y c = let h = shared-slice-copy-out-y c in omega (arith, c .before .before .before .before .before .before .good)
 
 cast-y : tie.Need-cast-y Inv-loop μ-loop
 cast-y c =
-    let a = c .before .before .before .before .before .before .before .args in
-    let i = c .before .before .before .loop .i in
-    rw (ret w32 (getD (now (a .ys)) i (pos 0)) (c .y .given)) (near-y (now (a .xs)) (now (a .ys)) (now (a .kinds)) (c .before .before .before .before .before .before .before .pre) i (inside (c .before .before)))
-
-add-i : tie.Need-add-i Inv-loop μ-loop
-add-i c = omega arith
-
-loop-less : tie.Need-loop-less Inv-loop μ-loop
-loop-less c = omega arith
+    let loop = c .before .before .before .loop in let start = c .before .before .before .before .before .before .before in
+    let a = start .args in
+    let i = loop .i in
+    rw (ret w32 (getD (now (a .ys)) i (pos 0)) (c .y .given)) (near-y (now (a .xs)) (now (a .ys)) (now (a .kinds)) (start .pre) i (inside (c .before .before)))
 
 loop-again : tie.Need-loop-again Inv-loop μ-loop
 loop-again c =
-    let a = c .before .before .before .before .before .before .before .before .before .before .before .args in
-    let l = c .before .before .before .before .before .before .before .loop in
-    let h = inside (c .before .before .before .before .before .before) in
+    let x0 = c .before .before .before .least in let y′ = c .before .before .before .before .y in
+    let x′ = c .before .before .before .before .before .x in let back = c .before .before .before .before .before .before in
+    let l = back .before .loop in let start = back .before .before .before .before .before in
+    let a = start .args in
+    let h = inside (back) in
     let x = getD (now (a .xs)) (l .i) (pos 0) in
     let y = getD (now (a .ys)) (l .i) (pos 0) in
-    let p = near-x (now (a .xs)) (now (a .ys)) (now (a .kinds)) (c .before .before .before .before .before .before .before .before .before .before .before .pre) (l .i) h in
-    let q = near-y (now (a .xs)) (now (a .ys)) (now (a .kinds)) (c .before .before .before .before .before .before .before .before .before .before .before .pre) (l .i) h in
-    let x0 = c .before .before .before .least in
+    let p = near-x (now (a .xs)) (now (a .ys)) (now (a .kinds)) (start .pre) (l .i) h in
+    let q = near-y (now (a .xs)) (now (a .ys)) (now (a .kinds)) (start .pre) (l .i) h in
     let y0 = c .before .before .least2 in
     let x1 = c .before .greatest in
     let y1 = c .greatest2 in
@@ -109,43 +112,34 @@ loop-again c =
             y0 .ensures,
             x1 .ensures,
             y1 .ensures,
-            ret w32 x (c .before .before .before .before .before .x .given),
-            ret w32 y (c .before .before .before .before .y .given),
+            ret w32 x (x′ .given),
+            ret w32 y (y′ .given),
             toZ-ofZ p,
             toZ-ofZ q,
           )
           (framing-more (cmdAt (now (a .xs)) (now (a .ys)) (now (a .kinds)) (l .i)) (l .inv .framing) (commands-more (now (a .xs)) (now (a .ys)) (now (a .kinds)) (l .i) h));
     }
 
-cast-new : tie.Need-cast-new Inv-loop μ-loop
-cast-new c = wider (c .before .loop .inv .left)
-
-cast-new-2 : tie.Need-cast-new-2 Inv-loop μ-loop
-cast-new-2 c = wider (c .before .loop .inv .top)
-
-cast-new-3 : tie.Need-cast-new-3 Inv-loop μ-loop
-cast-new-3 c = wider (c .before .before .loop .inv .right)
-
-cast-new-4 : tie.Need-cast-new-4 Inv-loop μ-loop
-cast-new-4 c = wider (c .before .before .loop .inv .bottom)
-
 returns-2 : tie.Need-returns-2 Inv-loop μ-loop
 returns-2 c =
-    let a = c .before .before .before .before .before .before .before .args in
-    let l = c .before .before .before .loop in
+    let l = c .before .before .before .loop in let if1 = c .before .before .before .before .if1 in
+    let start = c .before .before .before .before .before .before .before in
+    let a = start .args in
     let k = l .inv in
     let cs = commands (now (a .xs)) (now (a .ys)) (now (a .kinds)) in
-    let h : 0 < length cs = omega (arith, k .whole, c .before .before .before .before .if1 .left) in
-    let p = near-x (now (a .xs)) (now (a .ys)) (now (a .kinds)) (c .before .before .before .before .before .before .before .pre) 0 h in
-    let q = near-y (now (a .xs)) (now (a .ys)) (now (a .kinds)) (c .before .before .before .before .before .before .before .pre) 0 h in
+    let h : 0 < length cs = omega (arith, k .whole, if1 .left) in
+    let p = near-x (now (a .xs)) (now (a .ys)) (now (a .kinds)) (start .pre) 0 h in
+    let q = near-y (now (a .xs)) (now (a .ys)) (now (a .kinds)) (start .pre) 0 h in
     rw (c .before .new2 .ensures, c .new3 .ensures, toZ-ofZ (wider (k .left)), toZ-ofZ (wider (k .top)), toZ-ofZ (wider (k .right)), toZ-ofZ (wider (k .bottom)))
-    (framing-done 32767 (cmdAt (now (a .xs)) (now (a .ys)) (now (a .kinds)) 0) (commands-more (now (a .xs)) (now (a .ys)) (now (a .kinds)) 0 h) (p .sfits) (q .sfits) (rw (list-end cs (l .i) (omega (arith, k .whole))) at (k .framing)))
+    (framing-done 32767 (cmdAt (now (a .xs)) (now (a .ys)) (now (a .kinds)) 0) (commands-more (now (a .xs)) (now (a .ys)) (now (a .kinds)) 0 h) (p .sfits) (q .sfits)
+    (rw (list-end cs (l .i) (omega (arith, k .whole))) at (k .framing)))
 
 pub near-bounds-spec : {M : Type 1} → statement M
 near-bounds-spec =
     tie.close
     (tie.spec
-    Inv-loop μ-loop (λ c κs. search needs) (λ c κs. search needs) (λ c κs. search needs) (λ c κs. search needs)
-    returns loop-holds mul-x shared-slice-copy-out-x cast-x mul-y shared-slice-copy-out-y cast-y
-    (λ c κs. search needs) (λ c κs. search needs) (λ c κs. search needs) (λ c κs. search needs) add-i loop-less
-    loop-again cast-new cast-new-2 (λ c κs. search needs) cast-new-3 cast-new-4 (λ c κs. search needs) returns-2)
+    Inv-loop μ-loop (λ c κs. search needs) (λ c κs. search needs) (λ c κs. search needs) (λ c κs. search needs) returns loop-holds mul-x
+    shared-slice-copy-out-x cast-x mul-y shared-slice-copy-out-y cast-y (λ c κs. search needs) (λ c κs. search needs) (λ c κs. search needs)
+    (λ c κs. search needs) (λ c. omega arith) (λ c. omega arith) loop-again (λ c. wider (c .before .loop .inv .left))
+    (λ c. wider (c .before .loop .inv .top)) (λ c κs. search needs) (λ c. wider (c .before .before .loop .inv .right))
+    (λ c. wider (c .before .before .loop .inv .bottom)) (λ c κs. search needs) returns-2)

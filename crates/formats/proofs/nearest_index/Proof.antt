@@ -16,15 +16,6 @@ Inv-loop color palette best₀ i₀ best i = (i ≤ 65) × Leading true color pa
 abbrev μ-loop : tie.MeasureT-loop
 μ-loop color palette best₀ i₀ best i = 65 - i
 
-loop-holds : tie.Need-loop-holds Inv-loop μ-loop
-loop-holds c = (omega arith, leading-none true (c .args .color) (c .args .t2) 0)
-
-add-i : tie.Need-add-i Inv-loop μ-loop
-add-i c = omega arith
-
-loop-less : tie.Need-loop-less Inv-loop μ-loop
-loop-less c = omega arith
-
 loop-again : tie.Need-loop-again Inv-loop μ-loop
 loop-again c =
     let a = c .before .before .before .before .args in
@@ -42,5 +33,5 @@ pub nearest-index-spec : {M : Type 1} → statement M
 nearest-index-spec =
     tie.close
     (tie.spec
-    Inv-loop μ-loop loop-holds (λ c. search needs) (λ c. search needs) (λ c κs. search needs) add-i loop-less
-    loop-again returns)
+    Inv-loop μ-loop (λ c. (omega arith, leading-none true (c .args .color) (c .args .t2) 0)) (λ c. search needs) (λ c. search needs)
+    (λ c κs. search needs) (λ c. omega arith) (λ c. omega arith) loop-again returns)

@@ -26,18 +26,6 @@ loop-holds : tie.Need-loop-holds Inv-loop μ-loop
 unfolding pecPalette choices pecChart
 loop-holds c = (omega arith, (omega arith, writing-start _ 1 (drop 1 pecPalette) (lit≤ tt)))
 
-pec-thread-requires : tie.Need-pec-thread-requires Inv-loop μ-loop
-pec-thread-requires c κs = omega arith
-
-array-set-from-out : tie.Need-array-set-from-out Inv-loop μ-loop
-array-set-from-out c = omega arith
-
-add-i : tie.Need-add-i Inv-loop μ-loop
-add-i c = omega arith
-
-loop-less : tie.Need-loop-less Inv-loop μ-loop
-loop-less c = omega arith
-
 loop-again : tie.Need-loop-again Inv-loop μ-loop
 unfolding pecPalette
 loop-again c =
@@ -56,5 +44,5 @@ pub pec-palette-spec : {M : Type 1} → statement M
 pec-palette-spec =
     tie.close
     (tie.spec
-    Inv-loop μ-loop loop-holds pec-thread-requires (λ c. search needs) array-set-from-out add-i loop-less loop-again
+    Inv-loop μ-loop loop-holds (λ c κs. omega arith) (λ c. search needs) (λ c. omega arith) (λ c. omega arith) (λ c. omega arith) loop-again
     returns)

@@ -37,35 +37,38 @@ loop-holds c =
     (omega arith, (rw (c .empty2 .ensures) (framing-start 2147483647 (commands (now (a .xs)) (now (a .ys)) (now (a .kinds)))), (below-none _, below-none _)))
 
 -- the turn's index is that of a command
-inside : (c : tie.In-loop Inv-loop μ-loop) → c .before .loop .i < length (commands (now ((c .before .before .before .before .before .before .args) .xs)) (now ((c .before .before .before .before .before .before .args) .ys)) (now ((c .before .before .before .before .before .before .args) .kinds)))
-inside c = omega (arith, c .before .before .before .before .list-len .ensures)
+inside : (c : tie.In-loop Inv-loop μ-loop) → c .before .loop .i < length
+    (commands (now ((c .before .before .before .before .before .before .args) .xs)) (now ((c .before .before .before .before .before .before .args) .ys))
+    (now ((c .before .before .before .before .before .before .args) .kinds)))
+inside c =
+    let list-len = c .before .before .before .before .list-len in
+    omega (arith, list-len .ensures)
 
 shared-slice-copy-out-new : tie.Need-shared-slice-copy-out-new Inv-loop μ-loop
-shared-slice-copy-out-new c = omega (arith, inside c, length-commands (now ((c .before .before .before .before .before .before .args) .xs)) (now ((c .before .before .before .before .before .before .args) .ys)) (now ((c .before .before .before .before .before .before .args) .kinds)))
+shared-slice-copy-out-new c =
+    let start = c .before .before .before .before .before .before in
+    omega (arith, inside c, length-commands (now ((start .args) .xs)) (now ((start .args) .ys)) (now ((start .args) .kinds)))
 
 mul-new : tie.Need-mul-new Inv-loop μ-loop
 mul-new c = let h = shared-slice-copy-out-new c in omega (arith, c .before .before .before .before .before .before .good)
 
 shared-slice-copy-out-new-2 : tie.Need-shared-slice-copy-out-new-2 Inv-loop μ-loop
-shared-slice-copy-out-new-2 c = omega (arith, inside (c .before), length-commands (now ((c .before .before .before .before .before .before .before .args) .xs)) (now ((c .before .before .before .before .before .before .before .args) .ys)) (now ((c .before .before .before .before .before .before .before .args) .kinds)))
+shared-slice-copy-out-new-2 c =
+    let start = c .before .before .before .before .before .before .before in
+    omega (arith, inside (c .before), length-commands (now ((start .args) .xs)) (now ((start .args) .ys)) (now ((start .args) .kinds)))
 
 mul-new-2 : tie.Need-mul-new-2 Inv-loop μ-loop
 mul-new-2 c = let h = shared-slice-copy-out-new-2 c in omega (arith, c .before .before .before .before .before .before .before .good)
 
-add-i : tie.Need-add-i Inv-loop μ-loop
-add-i c = omega arith
-
-loop-less : tie.Need-loop-less Inv-loop μ-loop
-loop-less c = omega arith
-
 loop-again : tie.Need-loop-again Inv-loop μ-loop
 loop-again c =
-    let a = c .before .before .before .before .before .before .before .before .before .before .args in
-    let l = c .before .before .before .before .before .loop in
-    let h = inside (c .before .before .before .before) in
-    let x = c .before .before .before .new-arg .given in
+    let new-arg = c .before .before .before .new-arg in let back = c .before .before .before .before in let l = back .before .loop in
+    let list-len = back .before .before .before .before .list-len in let start = back .before .before .before .before .before .before in
+    let a = start .args in
+    let h = inside (back) in
+    let x = new-arg .given in
     let y = c .before .before .new-arg2 .given in (
-      omega (arith, h, c .before .before .before .before .before .before .before .before .list-len .ensures),
+      omega (arith, h, list-len .ensures),
       (
         rw (c .add2 .ensures, c .before .new2 .ensures, ret w32 (getD (now (a .xs)) (l .i) (pos 0)) x, ret w32 (getD (now (a .ys)) (l .i) (pos 0)) y)
             (framing-more (cmdAt (now (a .xs)) (now (a .ys)) (now (a .kinds)) (l .i)) (l .inv .1 .0) (commands-more (now (a .xs)) (now (a .ys)) (now (a .kinds)) (l .i) h)),
@@ -75,18 +78,21 @@ loop-again c =
 
 returns-2 : tie.Need-returns-2 Inv-loop μ-loop
 returns-2 c =
-    let a = c .before .before .before .before .before .before .args in
+    let if1 = c .before .before .before .if1 in let list-len = c .before .before .before .before .list-len in
+    let start = c .before .before .before .before .before .before in
+    let a = start .args in
     let l = c .before .loop in
     let cs = commands (now (a .xs)) (now (a .ys)) (now (a .kinds)) in
-    let n : length cs ≡ l .i = omega (arith, c .before .before .before .before .list-len .ensures) in
-    let some : 0 < l .i = omega (arith, c .before .before .before .if1 .left) in
+    let n : length cs ≡ l .i = omega (arith, list-len .ensures) in
+    let some : 0 < l .i = omega (arith, if1 .left) in
     let h : 0 < length cs = omega arith in
-    framing-done 2147483647 (cmdAt (now (a .xs)) (now (a .ys)) (now (a .kinds)) 0) (commands-more (now (a .xs)) (now (a .ys)) (now (a .kinds)) 0 h) (l .inv .1 .1 .0 0 some) (l .inv .1 .1 .1 0 some) (rw (list-end cs (l .i) (omega arith)) at (l .inv .1 .0))
+    framing-done 2147483647 (cmdAt (now (a .xs)) (now (a .ys)) (now (a .kinds)) 0) (commands-more (now (a .xs)) (now (a .ys)) (now (a .kinds)) 0 h)
+    (l .inv .1 .1 .0 0 some) (l .inv .1 .1 .1 0 some) (rw (list-end cs (l .i) (omega arith)) at (l .inv .1 .0))
 
 pub stream-bounds-spec : {M : Type 1} → statement M
 stream-bounds-spec =
     tie.close
     (tie.spec
-    Inv-loop μ-loop (λ c κs. search needs) (λ c κs. search needs) (λ c κs. search needs) (λ c κs. search needs)
-    returns (λ c κs. search needs) loop-holds mul-new shared-slice-copy-out-new mul-new-2
-    shared-slice-copy-out-new-2 (λ c κs. search needs) (λ c κs. search needs) add-i loop-less loop-again returns-2)
+    Inv-loop μ-loop (λ c κs. search needs) (λ c κs. search needs) (λ c κs. search needs) (λ c κs. search needs) returns
+    (λ c κs. search needs) loop-holds mul-new shared-slice-copy-out-new mul-new-2 shared-slice-copy-out-new-2 (λ c κs. search needs)
+    (λ c κs. search needs) (λ c. omega arith) (λ c. omega arith) loop-again returns-2)

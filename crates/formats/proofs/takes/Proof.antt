@@ -3,8 +3,5 @@ use borrow.Author.Needs.{needs}
 use Rattle.formats.proofs.takes.Statement.{statement}
 use Rattle.formats.proofs.takes.Tie as tie
 
-returns-2 : tie.Need-returns-2
-returns-2 c = rw (c .enum-told .given .1)
-
 pub takes-spec : {M : Type 1} → statement M
-takes-spec = tie.close (tie.spec (λ c. search needs) (λ c. search needs) (λ c. search needs) returns-2)
+takes-spec = tie.close (tie.spec (λ c. search needs) (λ c. search needs) (λ c. search needs) (λ c. rw (c .enum-told .given .1)))

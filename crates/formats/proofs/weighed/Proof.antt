@@ -28,30 +28,6 @@ reds c = times (omega (arith, c .pre .0)) (c .pre .1 .0)
 blues : (c : Start) → (767 - c .args .m) * (c .args .b * c .args .b) ≤ 49874175
 blues c = times (omega arith) (c .pre .1 .1 .1)
 
-mul-result : tie.Need-mul-result
-mul-result c = record { fits = omega (arith, red c) }
-
-mul-result-2 : tie.Need-mul-result-2
-mul-result-2 c = record { fits = omega (arith, reds c) }
-
-mul-result-3 : tie.Need-mul-result-3
-mul-result-3 c = record { fits = omega (arith, green c) }
-
-mul-result-4 : tie.Need-mul-result-4
-mul-result-4 c = record { fits = omega (arith, green c) }
-
-add-result-2 : tie.Need-add-result-2
-add-result-2 c = record { fits = omega (arith, reds c, green c) }
-
-mul-result-5 : tie.Need-mul-result-5
-mul-result-5 c = record { fits = omega (arith, blue c) }
-
-mul-result-6 : tie.Need-mul-result-6
-mul-result-6 c = record { fits = omega (arith, blues c) }
-
-add-result-3 : tie.Need-add-result-3
-add-result-3 c = record { fits = omega (arith, reds c, green c, blues c) }
-
 returns : tie.Need-returns
 unfolding weighed
 returns c = refl
@@ -60,5 +36,7 @@ pub weighed-spec : {M : Type 1} → statement M
 weighed-spec =
     tie.close
     (tie.spec
-    (λ c. search needs) mul-result mul-result-2 mul-result-3 mul-result-4 add-result-2 (λ c. search needs)
-    mul-result-5 mul-result-6 add-result-3 returns)
+    (λ c. search needs) (λ c. record { fits = omega (arith, red c) }) (λ c. record { fits = omega (arith, reds c) })
+    (λ c. record { fits = omega (arith, green c) }) (λ c. record { fits = omega (arith, green c) })
+    (λ c. record { fits = omega (arith, reds c, green c) }) (λ c. search needs) (λ c. record { fits = omega (arith, blue c) })
+    (λ c. record { fits = omega (arith, blues c) }) (λ c. record { fits = omega (arith, reds c, green c, blues c) }) returns)

@@ -24,34 +24,10 @@ near c =
     let a = c .args in
     near-step (now (a .xs)) (now (a .ys)) (now (a .kinds)) (c .pre .1) (a .i) (c .pre .0 .0) (c .pre .0 .1)
 
-mul-step : tie.Need-mul-step
-mul-step c = omega (arith, here (c .before))
-
-shared-slice-copy-out-step : tie.Need-shared-slice-copy-out-step
-shared-slice-copy-out-step c = omega (arith, here (c .before))
-
-mul-step-2 : tie.Need-mul-step-2
-mul-step-2 c = omega (arith, here (c .before .before))
-
-shared-slice-copy-out-step-2 : tie.Need-shared-slice-copy-out-step-2
-shared-slice-copy-out-step-2 c = omega (arith, here (c .before .before))
-
 step-requires : tie.Need-step-requires
 step-requires c κs =
     let start = c .before .before .before in
     rw (read-step (now (start .args .xs)) (start .args .i) (c .before .step-arg .given) (c .step-arg2 .given)) (near start .x)
-
-mul-step-3 : tie.Need-mul-step-3
-mul-step-3 c = omega (arith, here (c .before .before .before .before))
-
-shared-slice-copy-out-step-3 : tie.Need-shared-slice-copy-out-step-3
-shared-slice-copy-out-step-3 c = omega (arith, here (c .before .before .before .before))
-
-mul-step-4 : tie.Need-mul-step-4
-mul-step-4 c = omega (arith, here (c .before .before .before .before .before))
-
-shared-slice-copy-out-step-4 : tie.Need-shared-slice-copy-out-step-4
-shared-slice-copy-out-step-4 c = omega (arith, here (c .before .before .before .before .before))
 
 step-requires-2 : tie.Need-step-requires-2
 step-requires-2 c κs =
@@ -85,6 +61,9 @@ pub is-short-at-spec : {M : Type 1} → statement M
 is-short-at-spec =
     tie.close
     (tie.spec
-    (λ c. search needs) mul-step shared-slice-copy-out-step mul-step-2 shared-slice-copy-out-step-2 step-requires
-    (λ c. search needs) mul-step-3 shared-slice-copy-out-step-3 mul-step-4 shared-slice-copy-out-step-4
-    step-requires-2 (λ c κs. search needs) (λ c κs. search needs) shared-slice-read-result returns)
+    (λ c. search needs) (λ c. omega (arith, here (c .before))) (λ c. omega (arith, here (c .before)))
+    (λ c. omega (arith, here (c .before .before))) (λ c. omega (arith, here (c .before .before))) step-requires (λ c. search needs)
+    (λ c. omega (arith, here (c .before .before .before .before))) (λ c. omega (arith, here (c .before .before .before .before)))
+    (λ c. omega (arith, here (c .before .before .before .before .before)))
+    (λ c. omega (arith, here (c .before .before .before .before .before))) step-requires-2 (λ c κs. search needs) (λ c κs. search needs)
+    shared-slice-read-result returns)

@@ -19,7 +19,9 @@ use Rattle.laws.specs.Listing.{Listed, listed}
 use Rattle.pec_cmd.specs.declared.State.{State}
 use Rattle.pec_cmd.specs.States.{stateOf}
 use Rattle.pec.proofs.Stream.{readAt}
-use Rattle.pec.proofs.Turns.{Behind, Opened, opened-start, Turn, Run, no-bytes, bytesAt, bytesAfter, next-bytes, next-step, next-near, opened-next, opened-still, stepsAt, stillAfter, going-bytes, runBytes, runLeaves, run-ends, run-leaves, length-run, run-reads, run-near, run-behind, looking, turns, turns-run, turns-next}
+use Rattle.pec.proofs.Turns.{Behind, Opened, opened-start, Turn, Run, no-bytes, bytesAt, bytesAfter, next-bytes, next-step, next-near, opened-next, opened-still}
+use Rattle.pec.proofs.Turns.{stepsAt, stillAfter, going-bytes, runBytes, runLeaves, run-ends, run-leaves, length-run, run-reads, run-near, run-behind, looking}
+use Rattle.pec.proofs.Turns.{turns, turns-run, turns-next}
 use Rattle.pec.proofs.pec_encode.Statement.{statement}
 use Rattle.pec.proofs.pec_encode.Tie as tie
 
@@ -34,12 +36,6 @@ Inv-loop xs ys kinds out₀ at n s₀ x₀ y₀ to₀ i₀ wait₀ out s x y to 
 abbrev μ-loop : tie.MeasureT-loop
 μ-loop xs ys kinds out₀ at n s₀ x₀ y₀ to₀ i₀ wait₀ out s x y to i wait = turns n i wait
 
-list-len-requires : tie.Need-list-len-requires Inv-loop μ-loop
-list-len-requires c κs = tt
-
-start-requires : tie.Need-start-requires Inv-loop μ-loop
-start-requires c κs = tt
-
 loop-holds : tie.Need-loop-holds Inv-loop μ-loop
 unfolding stepTooLong
 loop-holds c =
@@ -48,9 +44,6 @@ loop-holds c =
     let whole = pecStitches pecStart (pos 0) (pos 0) (commands (now (a .xs)) (now (a .ys)) (now (a .kinds))) in
     let opened = opened-start (now (a .xs)) (now (a .ys)) (c .start .result) (pos 0) (pos 0) (c .start .ensures) in
     (c .before .list-len .ensures, (rw (c .start .ensures) (writing-start (now (a .out)) (a .at) whole (start .pre .1)), (start .pre .0, opened)))
-
-looks-requires : tie.Need-looks-requires Inv-loop μ-loop
-looks-requires c κs = tt
 
 -- what is said of the lists, a command's number, the state and the place, as a turn begins
 abbrev On : (List ℤ → List ℤ → List ℕ → ℕ → State → ℤ → ℤ → Type 0) → tie.At-loop Inv-loop μ-loop → Type 0
@@ -84,20 +77,19 @@ put-shorts-requires c κs =
     let room = writing-room (runBytes r) (runLeaves r) (c .before .before .before .before .before .loop .inv .1 .0) (run-leaves r) in
     ((r .behind .some, (r .ahead, r .inside)), (r .short, omega (arith, room, length-run r)))
 
-sub-x : tie.Need-sub-x Inv-loop μ-loop
-sub-x c = omega (arith, run-ends (run (c .before .before .before .before)))
-
 mul-x : tie.Need-mul-x Inv-loop μ-loop
-mul-x c = omega (arith, run-ends (run (c .before .before .before .before)), c .before .before .before .before .before .before .before .before .before .before .before .before .before .good)
-
-shared-slice-copy-out-x : tie.Need-shared-slice-copy-out-x Inv-loop μ-loop
-shared-slice-copy-out-x c = omega (arith, run-ends (run (c .before .before .before .before)))
+mul-x c =
+    let back = c .before .before .before .before in let good = back .before .before .before .before .before .before .before .before .before .good in
+    omega (arith, run-ends (run (back)), good)
 
 sub-y : tie.Need-sub-y Inv-loop μ-loop
 sub-y c = omega (arith, run-ends (run (c .before .before .before .before .before)))
 
 mul-y : tie.Need-mul-y Inv-loop μ-loop
-mul-y c = omega (arith, run-ends (run (c .before .before .before .before .before)), c .before .before .before .before .before .before .before .before .before .before .before .before .before .before .good)
+mul-y c =
+    let back = c .before .before .before .before .before in
+    let good = back .before .before .before .before .before .before .before .before .before .good in
+    omega (arith, run-ends (run (back)), good)
 
 shared-slice-copy-out-y : tie.Need-shared-slice-copy-out-y Inv-loop μ-loop
 shared-slice-copy-out-y c = omega (arith, run-ends (run (c .before .before .before .before .before)))
@@ -119,24 +111,6 @@ loop-again c =
     let writing = writing-more {vs = runBytes r} (head .loop .inv .1 .0) (run-reads r p q) (done .put-shorts .ensures) in
     (head .loop .inv .0, (writing, (run-near r p q (head .before .before .before .before .before .pre .0), run-behind r p q)))
 
-one-less-requires : tie.Need-one-less-requires Inv-loop μ-loop
-one-less-requires c κs = tt
-
-shared-slice-read-kind : tie.Need-shared-slice-read-kind Inv-loop μ-loop
-shared-slice-read-kind c = omega (arith, here (c .before .before .before .before))
-
-mul-nx : tie.Need-mul-nx Inv-loop μ-loop
-mul-nx c = omega (arith, here (c .before .before .before .before))
-
-shared-slice-copy-out-nx : tie.Need-shared-slice-copy-out-nx Inv-loop μ-loop
-shared-slice-copy-out-nx c = omega (arith, here (c .before .before .before .before))
-
-mul-ny : tie.Need-mul-ny Inv-loop μ-loop
-mul-ny c = omega (arith, here (c .before .before .before .before .before))
-
-shared-slice-copy-out-ny : tie.Need-shared-slice-copy-out-ny Inv-loop μ-loop
-shared-slice-copy-out-ny c = omega (arith, here (c .before .before .before .before .before))
-
 abbrev head : tie.After-ny Inv-loop μ-loop → tie.At-loop Inv-loop μ-loop
 head c = c .before .before .before .before .before .before .before
 
@@ -144,22 +118,10 @@ head c = c .before .before .before .before .before .before .before
 turn : (c : tie.After-ny Inv-loop μ-loop) → On Turn (head c)
 turn c = record { inside = omega arith; across = c .before .nx .given; down = c .ny .given; near = head c .loop .inv .1 .1 .0; opened = head c .loop .inv .1 .1 .1 }
 
-step-requires : tie.Need-step-requires Inv-loop μ-loop
-step-requires c κs = next-step (turn c) .x
-
-step-requires-2 : tie.Need-step-requires-2 Inv-loop μ-loop
-step-requires-2 c κs = next-step (turn (c .before)) .y
-
 -- its steps, as the code has them
 steps : (c : tie.After-step2 Inv-loop μ-loop)
     → On (λ xs ys ks i s x y. (toZ w32 (ofZ w32 (c .before .step .result)) ≡ readAt xs i -ℤ x) × (toZ w32 (ofZ w32 (c .step2 .result)) ≡ readAt ys i -ℤ y)) (head (c .before .before))
 steps c = (ret w32 (c .before .step .result) (c .before .step .ok) ∙ c .before .step .ensures, ret w32 (c .step2 .result) (c .step2 .ok) ∙ c .step2 .ensures)
-
-add-i : tie.Need-add-i Inv-loop μ-loop
-add-i c = omega arith
-
-is-going-requires : tie.Need-is-going-requires Inv-loop μ-loop
-is-going-requires c κs = tt
 
 put-steps-requires : tie.Need-put-steps-requires Inv-loop μ-loop
 put-steps-requires c κs =
@@ -185,17 +147,11 @@ loop-again-2 c =
     let put = rw (steps up .0, steps up .1) at (done .put-steps .ensures) in
     (inv .0, (writing-more (inv .1 .0) e put, (next-near t, opened-still t)))
 
-op-of-requires : tie.Need-op-of-requires Inv-loop μ-loop
-op-of-requires c κs = tt
-
 put-cmd-requires : tie.Need-put-cmd-requires Inv-loop μ-loop
 put-cmd-requires c κs =
     let up = c .before .before .before .before in
     let t = turn (up .before .before) in
     rw (steps up .0, steps up .1, c .before .op-of .ensures) (next-step t, writing-room (bytesAt t) (bytesAfter t) (head (up .before .before) .loop .inv .1 .0) (next-bytes t))
-
-next-requires : tie.Need-next-requires Inv-loop μ-loop
-next-requires c κs = tt
 
 loop-less-3 : tie.Need-loop-less-3 Inv-loop μ-loop
 loop-less-3 c =
@@ -215,9 +171,6 @@ loop-again-3 c =
     let after = c .next .ensures ∙ ap (pecNext (stateOf (loop .s))) op in
     (loop .inv .0, (rw after (writing-more (loop .inv .1 .0) (next-bytes t) put), (next-near t, opened-next t (c .next .result) after)))
 
-same-length : tie.Need-same-length Inv-loop μ-loop
-same-length c = c .before .loop .inv .1 .0 .same
-
 returns : tie.Need-returns Inv-loop μ-loop
 returns c =
     let a = c .before .before .before .before .before .before .args in
@@ -228,8 +181,12 @@ pub pec-encode-spec : {M : Type 1} → statement M
 pec-encode-spec =
     tie.close
     (tie.spec
-    Inv-loop μ-loop list-len-requires start-requires loop-holds looks-requires short-till-requires
-    put-shorts-requires sub-x mul-x shared-slice-copy-out-x sub-y mul-y shared-slice-copy-out-y loop-less loop-again
-    one-less-requires shared-slice-read-kind mul-nx shared-slice-copy-out-nx mul-ny shared-slice-copy-out-ny
-    step-requires step-requires-2 add-i is-going-requires put-steps-requires loop-less-2 loop-again-2 op-of-requires
-    put-cmd-requires next-requires loop-less-3 loop-again-3 same-length returns)
+    Inv-loop μ-loop (λ c κs. tt) (λ c κs. tt) loop-holds (λ c κs. tt) short-till-requires put-shorts-requires
+    (λ c. omega (arith, run-ends (run (c .before .before .before .before)))) mul-x
+    (λ c. omega (arith, run-ends (run (c .before .before .before .before)))) sub-y mul-y shared-slice-copy-out-y loop-less loop-again
+    (λ c κs. tt) (λ c. omega (arith, here (c .before .before .before .before)))
+    (λ c. omega (arith, here (c .before .before .before .before))) (λ c. omega (arith, here (c .before .before .before .before)))
+    (λ c. omega (arith, here (c .before .before .before .before .before)))
+    (λ c. omega (arith, here (c .before .before .before .before .before))) (λ c κs. next-step (turn c) .x)
+    (λ c κs. next-step (turn (c .before)) .y) (λ c. omega arith) (λ c κs. tt) put-steps-requires loop-less-2 loop-again-2 (λ c κs. tt)
+    put-cmd-requires (λ c κs. tt) loop-less-3 loop-again-3 (λ c. c .before .loop .inv .1 .0 .same) returns)

@@ -18,7 +18,8 @@ use Rattle.laws.specs.Listing.{Listed, listed}
 use Rattle.pec_cmd.specs.declared.State.{State}
 use Rattle.pec_cmd.specs.States.{stateOf}
 use Rattle.pec.proofs.Stream.{readAt}
-use Rattle.pec.proofs.Turns.{Behind, Opened, opened-start, Turn, Run, no-bytes, next-long, next-step, next-near, opened-next, opened-still, going-long, run-ends, run-long, run-near, run-behind, looking, turns, turns-run, turns-next}
+use Rattle.pec.proofs.Turns.{Behind, Opened, opened-start, Turn, Run, no-bytes, next-long, next-step, next-near, opened-next, opened-still, going-long, run-ends}
+use Rattle.pec.proofs.Turns.{run-long, run-near, run-behind, looking, turns, turns-run, turns-next}
 use Rattle.pec.proofs.pec_len.Statement.{statement}
 use Rattle.pec.proofs.pec_len.Tie as tie
 
@@ -34,21 +35,12 @@ Inv-loop xs ys kinds n s₀ x₀ y₀ total₀ i₀ wait₀ s x y total i wait =
 abbrev μ-loop : tie.MeasureT-loop
 μ-loop xs ys kinds n s₀ x₀ y₀ total₀ i₀ wait₀ s x y total i wait = turns n i wait
 
-list-len-requires : tie.Need-list-len-requires Inv-loop μ-loop
-list-len-requires c κs = tt
-
-start-requires : tie.Need-start-requires Inv-loop μ-loop
-start-requires c κs = tt
-
 loop-holds : tie.Need-loop-holds Inv-loop μ-loop
 unfolding stepTooLong
 loop-holds c =
     let a = c .before .before .before .args in
     let opened = opened-start (now (a .xs)) (now (a .ys)) (c .start .result) (pos 0) (pos 0) (c .start .ensures) in
     (c .before .list-len .ensures, (omega arith, (rw (c .start .ensures) (omega arith), (c .before .before .before .pre .1, opened))))
-
-looks-requires : tie.Need-looks-requires Inv-loop μ-loop
-looks-requires c κs = tt
 
 -- what is said of the lists, a command's number, the state and the place, as a turn begins
 abbrev On : (List ℤ → List ℤ → List ℕ → ℕ → State → ℤ → ℤ → Type 0) → tie.At-loop Inv-loop μ-loop → Type 0
@@ -76,32 +68,13 @@ run c =
     let till = c .short-till .ensures in
     record { behind = behind (c .before); ahead = till .0; inside = till .1 .0; short = till .1 .1 }
 
-sub-total : tie.Need-sub-total Inv-loop μ-loop
-sub-total c = omega arith
-
 mul-total : tie.Need-mul-total Inv-loop μ-loop
 mul-total c = omega (arith, run-ends (run c), c .before .before .before .before .before .before .before .before .pre .0)
 
 add-total : tie.Need-add-total Inv-loop μ-loop
-add-total c = omega (arith, run-ends (run c), c .before .before .before .before .loop .inv .1 .0, c .before .before .before .before .before .before .before .before .pre .0)
-
-sub-x : tie.Need-sub-x Inv-loop μ-loop
-sub-x c = omega (arith, run-ends (run c))
-
-mul-x : tie.Need-mul-x Inv-loop μ-loop
-mul-x c = omega (arith, run-ends (run c))
-
-shared-slice-copy-out-x : tie.Need-shared-slice-copy-out-x Inv-loop μ-loop
-shared-slice-copy-out-x c = omega (arith, run-ends (run c))
-
-sub-y : tie.Need-sub-y Inv-loop μ-loop
-sub-y c = omega (arith, run-ends (run (c .before)))
-
-mul-y : tie.Need-mul-y Inv-loop μ-loop
-mul-y c = omega (arith, run-ends (run (c .before)))
-
-shared-slice-copy-out-y : tie.Need-shared-slice-copy-out-y Inv-loop μ-loop
-shared-slice-copy-out-y c = omega (arith, run-ends (run (c .before)))
+add-total c =
+    let loop′ = c .before .before .before .before .loop in let start = c .before .before .before .before .before .before .before .before in
+    omega (arith, run-ends (run c), loop′ .inv .1 .0, start .pre .0)
 
 loop-less : tie.Need-loop-less Inv-loop μ-loop
 loop-less c =
@@ -120,24 +93,6 @@ loop-again c =
     let inv = head .loop .inv in
     (inv .0, (omega (arith, inv .1 .0, r .ahead), (omega (arith, run-long r p q, inv .1 .1 .0), (run-near r p q (head .before .before .before .before .pre .1), run-behind r p q))))
 
-one-less-requires : tie.Need-one-less-requires Inv-loop μ-loop
-one-less-requires c κs = tt
-
-shared-slice-read-kind : tie.Need-shared-slice-read-kind Inv-loop μ-loop
-shared-slice-read-kind c = omega (arith, here (c .before .before .before .before))
-
-mul-nx : tie.Need-mul-nx Inv-loop μ-loop
-mul-nx c = omega (arith, here (c .before .before .before .before))
-
-shared-slice-copy-out-nx : tie.Need-shared-slice-copy-out-nx Inv-loop μ-loop
-shared-slice-copy-out-nx c = omega (arith, here (c .before .before .before .before))
-
-mul-ny : tie.Need-mul-ny Inv-loop μ-loop
-mul-ny c = omega (arith, here (c .before .before .before .before .before))
-
-shared-slice-copy-out-ny : tie.Need-shared-slice-copy-out-ny Inv-loop μ-loop
-shared-slice-copy-out-ny c = omega (arith, here (c .before .before .before .before .before))
-
 abbrev head : tie.After-ny Inv-loop μ-loop → tie.At-loop Inv-loop μ-loop
 head c = c .before .before .before .before .before .before .before
 
@@ -145,25 +100,10 @@ head c = c .before .before .before .before .before .before .before
 turn : (c : tie.After-ny Inv-loop μ-loop) → On Turn (head c)
 turn c = record { inside = omega arith; across = c .before .nx .given; down = c .ny .given; near = head c .loop .inv .1 .1 .1 .0; opened = head c .loop .inv .1 .1 .1 .1 }
 
-step-requires : tie.Need-step-requires Inv-loop μ-loop
-step-requires c κs = next-step (turn c) .x
-
-step-requires-2 : tie.Need-step-requires-2 Inv-loop μ-loop
-step-requires-2 c κs = next-step (turn (c .before)) .y
-
 -- its steps, as the code has them
 steps : (c : tie.After-step2 Inv-loop μ-loop)
     → On (λ xs ys ks i s x y. (toZ w32 (ofZ w32 (c .before .step .result)) ≡ readAt xs i -ℤ x) × (toZ w32 (ofZ w32 (c .step2 .result)) ≡ readAt ys i -ℤ y)) (head (c .before .before))
 steps c = (ret w32 (c .before .step .result) (c .before .step .ok) ∙ c .before .step .ensures, ret w32 (c .step2 .result) (c .step2 .ok) ∙ c .step2 .ensures)
-
-add-i : tie.Need-add-i Inv-loop μ-loop
-add-i c = omega arith
-
-is-going-requires : tie.Need-is-going-requires Inv-loop μ-loop
-is-going-requires c κs = tt
-
-steps-len-requires : tie.Need-steps-len-requires Inv-loop μ-loop
-steps-len-requires c κs = tt
 
 add-total-2 : tie.Need-add-total-2 Inv-loop μ-loop
 add-total-2 c =
@@ -186,19 +126,10 @@ loop-again-2 c =
     let e = rw (steps up .0, steps up .1) at (c .steps-len .ensures .0) in
     (inv .0, (omega (arith, c .steps-len .ensures .1, inv .1 .0), (omega (arith, e, long, inv .1 .1 .0), (next-near t, opened-still t))))
 
-op-of-requires : tie.Need-op-of-requires Inv-loop μ-loop
-op-of-requires c κs = tt
-
-cmd-len-requires : tie.Need-cmd-len-requires Inv-loop μ-loop
-cmd-len-requires c κs = tt
-
 add-total-3 : tie.Need-add-total-3 Inv-loop μ-loop
 add-total-3 c =
     let inside = c .before .before .before .before .before .before .before .before .before .before .before .before in
     omega (arith, here inside, inside .before .before .before .before .before .pre .0, inside .before .loop .inv .1 .0, c .cmd-len .ensures .1)
-
-next-requires : tie.Need-next-requires Inv-loop μ-loop
-next-requires c κs = tt
 
 loop-less-3 : tie.Need-loop-less-3 Inv-loop μ-loop
 loop-less-3 c =
@@ -214,12 +145,18 @@ loop-again-3 c =
     let loop = head (up .before .before) .loop in
     let op = named .op-of .ensures in
     let e = rw (steps up .0, steps up .1, op) at (c .before .cmd-len .ensures .0) in
-    let after = c .next .ensures ∙ ap (pecNext (stateOf (loop .s))) op in
-    (loop .inv .0, (omega (arith, c .before .cmd-len .ensures .1, loop .inv .1 .0), (rw after (omega (arith, e, next-long t, loop .inv .1 .1 .0)), (next-near t, opened-next t (c .next .result) after))))
+    let after = c .next .ensures ∙ ap (pecNext (stateOf (loop .s))) op in (
+      loop .inv .0,
+      (
+        omega (arith, c .before .cmd-len .ensures .1, loop .inv .1 .0),
+        (rw after (omega (arith, e, next-long t, loop .inv .1 .1 .0)), (next-near t, opened-next t (c .next .result) after)),
+      ),
+    )
 
 returns : tie.Need-returns Inv-loop μ-loop
 returns c =
-    let a = c .before .before .before .before .before .args in
+    let start = c .before .before .before .before .before in
+    let a = start .args in
     let loop = c .before .loop in
     let none = no-bytes (commands (now (a .xs)) (now (a .ys)) (now (a .kinds))) (loop .i) (stateOf (loop .s)) (toZ w32 (loop .x)) (toZ w32 (loop .y)) (omega arith) in
     omega (arith, ap length none, loop .inv .1 .1 .0)
@@ -228,8 +165,12 @@ pub pec-len-spec : {M : Type 1} → statement M
 pec-len-spec =
     tie.close
     (tie.spec
-    Inv-loop μ-loop list-len-requires start-requires loop-holds looks-requires short-till-requires sub-total
-    mul-total add-total sub-x mul-x shared-slice-copy-out-x sub-y mul-y shared-slice-copy-out-y loop-less loop-again
-    one-less-requires shared-slice-read-kind mul-nx shared-slice-copy-out-nx mul-ny shared-slice-copy-out-ny
-    step-requires step-requires-2 add-i is-going-requires steps-len-requires add-total-2 loop-less-2 loop-again-2
-    op-of-requires cmd-len-requires add-total-3 next-requires loop-less-3 loop-again-3 returns)
+    Inv-loop μ-loop (λ c κs. tt) (λ c κs. tt) loop-holds (λ c κs. tt) short-till-requires (λ c. omega arith) mul-total add-total
+    (λ c. omega (arith, run-ends (run c))) (λ c. omega (arith, run-ends (run c))) (λ c. omega (arith, run-ends (run c)))
+    (λ c. omega (arith, run-ends (run (c .before)))) (λ c. omega (arith, run-ends (run (c .before))))
+    (λ c. omega (arith, run-ends (run (c .before)))) loop-less loop-again (λ c κs. tt)
+    (λ c. omega (arith, here (c .before .before .before .before))) (λ c. omega (arith, here (c .before .before .before .before)))
+    (λ c. omega (arith, here (c .before .before .before .before))) (λ c. omega (arith, here (c .before .before .before .before .before)))
+    (λ c. omega (arith, here (c .before .before .before .before .before))) (λ c κs. next-step (turn c) .x)
+    (λ c κs. next-step (turn (c .before)) .y) (λ c. omega arith) (λ c κs. tt) (λ c κs. tt) add-total-2 loop-less-2 loop-again-2 (λ c κs. tt)
+    (λ c κs. tt) add-total-3 (λ c κs. tt) loop-less-3 loop-again-3 returns)

@@ -49,41 +49,11 @@ short c =
     let t = start .pre .1 .0 k (c .before .loop .inv .0) (c .loop-test .taken) in
     (short-abs (stepTo (now (start .args .xs)) k) (t .x), short-abs (stepTo (now (start .args .ys)) k) (t .y))
 
-sub-step : tie.Need-sub-step Inv-loop μ-loop
-sub-step c = omega (arith, here c)
-
-mul-step : tie.Need-mul-step Inv-loop μ-loop
-mul-step c = omega (arith, here c)
-
-shared-slice-copy-out-step : tie.Need-shared-slice-copy-out-step Inv-loop μ-loop
-shared-slice-copy-out-step c = omega (arith, here c)
-
-mul-step-2 : tie.Need-mul-step-2 Inv-loop μ-loop
-mul-step-2 c = omega (arith, here (c .before))
-
-shared-slice-copy-out-step-2 : tie.Need-shared-slice-copy-out-step-2 Inv-loop μ-loop
-shared-slice-copy-out-step-2 c = omega (arith, here (c .before))
-
 step-requires : tie.Need-step-requires Inv-loop μ-loop
 step-requires c κs =
     let inside = c .before .before in
     let a = inside .before .before .before .before .args in
     rw (read-step (now (a .xs)) (inside .before .loop .k) (c .before .step-arg .given) (c .step-arg2 .given)) (omega (arith, short inside .0))
-
-sub-step-2 : tie.Need-sub-step-2 Inv-loop μ-loop
-sub-step-2 c = omega (arith, here (c .before .before .before))
-
-mul-step-3 : tie.Need-mul-step-3 Inv-loop μ-loop
-mul-step-3 c = omega (arith, here (c .before .before .before))
-
-shared-slice-copy-out-step-3 : tie.Need-shared-slice-copy-out-step-3 Inv-loop μ-loop
-shared-slice-copy-out-step-3 c = omega (arith, here (c .before .before .before))
-
-mul-step-4 : tie.Need-mul-step-4 Inv-loop μ-loop
-mul-step-4 c = omega (arith, here (c .before .before .before .before))
-
-shared-slice-copy-out-step-4 : tie.Need-shared-slice-copy-out-step-4 Inv-loop μ-loop
-shared-slice-copy-out-step-4 c = omega (arith, here (c .before .before .before .before))
 
 step-requires-2 : tie.Need-step-requires-2 Inv-loop μ-loop
 step-requires-2 c κs =
@@ -106,14 +76,9 @@ down c =
 
 small : (c : tie.After-step2 Inv-loop μ-loop) → (natAbs (toZ w32 (ofZ w32 (c .before .before .before .step .result))) ≤ 63) × (natAbs (toZ w32 (ofZ w32 (c .step2 .result))) ≤ 63)
 small c =
-    let t = short (c .before .before .before .before .before .before) in
-    (rw (across (c .before .before .before)) (t .0), rw (down c) (t .1))
-
-low7-requires : tie.Need-low7-requires Inv-loop μ-loop
-low7-requires c κs = omega (arith, small (c .before))
-
-low7-requires-2 : tie.Need-low7-requires-2 Inv-loop μ-loop
-low7-requires-2 c κs = omega (arith, small (c .before .before))
+    let back = c .before .before .before in let back′ = back .before .before .before in
+    let t = short (back′) in
+    (rw (across (back)) (t .0), rw (down c) (t .1))
 
 put2-requires : tie.Need-put2-requires Inv-loop μ-loop
 put2-requires c κs =
@@ -129,9 +94,6 @@ add-k c =
     let inside = c .before .before .before .before .before .before .before .before .before .before .before .before in
     omega (arith, here inside, inside .before .before .before .before .good)
 
-loop-less : tie.Need-loop-less Inv-loop μ-loop
-loop-less c = omega arith
-
 loop-again : tie.Need-loop-again Inv-loop μ-loop
 loop-again c =
     let done = c .before .before in
@@ -142,9 +104,6 @@ loop-again c =
     let put = rw (done .before .before .low7 .ensures, done .before .low72 .ensures, across (up .before .before .before), down up) at (done .put2 .ensures) in
     (omega arith, writing-more (inside .before .loop .inv .1) more put)
 
-same-length : tie.Need-same-length Inv-loop μ-loop
-same-length c = c .before .loop .inv .1 .same
-
 returns : tie.Need-returns Inv-loop μ-loop
 returns c =
     let a = c .before .before .before .before .args in
@@ -154,6 +113,10 @@ pub put-shorts-spec : {M : Type 1} → statement M
 put-shorts-spec =
     tie.close
     (tie.spec
-    Inv-loop μ-loop loop-holds sub-step mul-step shared-slice-copy-out-step mul-step-2 shared-slice-copy-out-step-2
-    step-requires sub-step-2 mul-step-3 shared-slice-copy-out-step-3 mul-step-4 shared-slice-copy-out-step-4
-    step-requires-2 low7-requires low7-requires-2 put2-requires add-k loop-less loop-again same-length returns)
+    Inv-loop μ-loop loop-holds (λ c. omega (arith, here c)) (λ c. omega (arith, here c)) (λ c. omega (arith, here c))
+    (λ c. omega (arith, here (c .before))) (λ c. omega (arith, here (c .before))) step-requires
+    (λ c. omega (arith, here (c .before .before .before))) (λ c. omega (arith, here (c .before .before .before)))
+    (λ c. omega (arith, here (c .before .before .before))) (λ c. omega (arith, here (c .before .before .before .before)))
+    (λ c. omega (arith, here (c .before .before .before .before))) step-requires-2 (λ c κs. omega (arith, small (c .before)))
+    (λ c κs. omega (arith, small (c .before .before))) put2-requires add-k (λ c. omega arith) loop-again
+    (λ c. c .before .loop .inv .1 .same) returns)

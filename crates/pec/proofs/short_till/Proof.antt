@@ -19,9 +19,6 @@ Inv-loop xs ys kinds i n k₀ k =
 abbrev μ-loop : tie.MeasureT-loop
 μ-loop xs ys kinds i n k₀ k = n - k
 
-list-len-requires : tie.Need-list-len-requires Inv-loop μ-loop
-list-len-requires c κs = tt
-
 loop-holds : tie.Need-loop-holds Inv-loop μ-loop
 loop-holds c = (c .list-len .ensures, (omega arith, (omega arith, shorts-none _ _ _ _)))
 
@@ -41,9 +38,6 @@ add-k c =
     let a = c .before .before .before .before .before .before .args in
     omega (arith, length-commands (now (a .xs)) (now (a .ys)) (now (a .kinds)))
 
-loop-less : tie.Need-loop-less Inv-loop μ-loop
-loop-less c = omega arith
-
 loop-again : tie.Need-loop-again Inv-loop μ-loop
 loop-again c =
     let a = c .before .before .before .before .before .before .args in
@@ -59,5 +53,4 @@ pub short-till-spec : {M : Type 1} → statement M
 short-till-spec =
     tie.close
     (tie.spec
-    Inv-loop μ-loop list-len-requires loop-holds add-loop are-short-requires returns add-k loop-less loop-again
-    returns-2)
+    Inv-loop μ-loop (λ c κs. tt) loop-holds add-loop are-short-requires returns add-k (λ c. omega arith) loop-again returns-2)

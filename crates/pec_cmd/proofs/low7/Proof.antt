@@ -7,9 +7,6 @@ use borrow.Author.Needs.{needs}
 use Rattle.pec_cmd.proofs.low7.Statement.{statement}
 use Rattle.pec_cmd.proofs.low7.Tie as tie
 
-add-result : tie.Need-add-result
-add-result c = over-fits 128 (c .fits .z) (omega arith) (omega arith)
-
 cast-result : tie.Need-cast-result
 cast-result c = rw (over-is 128 (c .fits .z) (omega arith) (omega arith)) (tt, record { fits = omega (arith, abs-is (c .args .z)) })
 
@@ -17,4 +14,4 @@ returns : tie.Need-returns
 returns c = rw (over-is 128 (c .fits .z) (omega arith) (omega arith)) (sym (seven (c .args .z) (c .pre)))
 
 pub low7-spec : {M : Type 1} → statement M
-low7-spec = tie.close (tie.spec add-result cast-result (λ c. search needs) returns)
+low7-spec = tie.close (tie.spec (λ c. over-fits 128 (c .fits .z) (omega arith) (omega arith)) cast-result (λ c. search needs) returns)

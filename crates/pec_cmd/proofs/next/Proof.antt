@@ -33,11 +33,9 @@ returns-3 : tie.Need-returns-3
 unfolding pecNext
 returns-3 c = rw (c .before .enum-told3 .given .1)
 
-returns-4 : tie.Need-returns-4
-returns-4 c = kept _ (c .before .args .op) (c .match .keys4)
-
 pub next-spec : {M : Type 1} → statement M
 next-spec =
     tie.close
     (tie.spec
-    (λ c. search needs) (λ c. search needs) (λ c. search needs) returns returns-2 returns-3 returns-4)
+    (λ c. search needs) (λ c. search needs) (λ c. search needs) returns returns-2 returns-3
+    (λ c. kept _ (c .before .args .op) (c .match .keys4)))

@@ -13,9 +13,6 @@ use Rattle.pec_cmd.proofs.pauses.Tie as tie
 zero : SFits w32 (pos 0)
 zero = omega ints
 
-returns : tie.Need-returns
-returns c = rw (un-not (c .before .args .jumped) (c .if1 .taken))
-
 returns-2 : tie.Need-returns-2
 returns-2 c =
     let s = c .before .before in
@@ -27,4 +24,4 @@ returns-3 c =
     rw (un-not-not (s .args .jumped) (c .before .if1 .left), sym (eq-test (s .fits .dx) zero) ∙ ne-eqb _ _ (c .if2 .left), sym (eq-test (s .fits .dy) zero))
 
 pub pauses-spec : {M : Type 1} → statement M
-pauses-spec = tie.close (tie.spec returns returns-2 returns-3)
+pauses-spec = tie.close (tie.spec (λ c. rw (un-not (c .before .args .jumped) (c .if1 .taken))) returns-2 returns-3)

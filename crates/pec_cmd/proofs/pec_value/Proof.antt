@@ -23,9 +23,11 @@ put-requires c κs =
 
 returns : tie.Need-returns
 returns c =
+    let low7 = c .before .before .before .low7 in let if1 = c .before .before .before .before .before .if1 in
+    let is-short = c .before .before .before .before .before .before .is-short in
     let s = c .before .before .before .before .before .before .before .before in
-    let e = rw (toZ-ofZ (s .fits .z)) at (sym (c .before .before .before .before .before .before .is-short .ensures) ∙ c .before .before .before .before .before .if1 .taken) in
-    put-as (c .before .before .put .ensures) (rw (c .before .before .before .low7 .ensures, toZ-ofZ (s .fits .z), one-byte (s .args .z) e))
+    let e = rw (toZ-ofZ (s .fits .z)) at (sym (is-short .ensures) ∙ if1 .taken) in
+    put-as (c .before .before .put .ensures) (rw (low7 .ensures, toZ-ofZ (s .fits .z), one-byte (s .args .z) e))
 
 put-wide-requires : tie.Need-put-wide-requires
 unfolding wide

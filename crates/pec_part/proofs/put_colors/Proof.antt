@@ -34,10 +34,17 @@ module _ (threads : List ℕ) where
   some h = with-count (uniquePalette (threadsOf threads)) (omega (arith, length-unique (threadsOf threads), length-threads threads, h))
 
 returns : tie.Need-returns
-returns c = put-as (c .before .before .put-no-colors .ensures) (none (now (c .before .before .before .before .before .before .before .args .threads)) (c .before .before .before .before .if1 .taken))
+returns c =
+    let if1 = c .before .before .before .before .if1 in let start = c .before .before .before .before .before .before .before in
+    put-as (c .before .before .put-no-colors .ensures) (none (now (start .args .threads)) (if1 .taken))
 
 returns-2 : tie.Need-returns-2
-returns-2 c = put-as (put-put (c .before .before .before .before .before .before .before .before .before .before .put-times .ensures) (put-put (c .before .before .before .before .before .before .put .ensures) (c .before .before .unique-palette .ensures))) (some (now (c .before .before .before .before .before .before .before .before .before .before .before .before .before .before .before .args .threads)) (c .before .before .before .before .before .before .before .before .before .before .before .before .if1 .left))
+returns-2 c =
+    let put = c .before .before .before .before .before .before .put in
+    let put-times = c .before .before .before .before .before .before .before .before .before .before .put-times in
+    let at-if1 = c .before .before .before .before .before .before .before .before .before .before .before .before in let if1 = at-if1 .if1 in
+    let start = at-if1 .before .before .before in
+    put-as (put-put (put-times .ensures) (put-put (put .ensures) (c .before .before .unique-palette .ensures))) (some (now (start .args .threads)) (if1 .left))
 
 pub put-colors-spec : {M : Type 1} → statement M
 put-colors-spec =

@@ -12,20 +12,35 @@ use Rattle.pec_part.proofs.put_header.Tie as tie
 
 put-colors-requires : tie.Need-put-colors-requires
 put-colors-requires c κs =
-    let a = c .before .before .before .before .before .before .before .before .args in
-    (c .before .before .before .before .before .before .before .before .pre .0, omega (arith, c .before .before .before .before .before .before .before .before .pre, put-length (c .before .before .before .put-label .ensures), length-label (now (a .name)), length-threads (now (a .threads))))
+    let put-label = c .before .before .before .put-label in let start = c .before .before .before .before .before .before .before .before in
+    let a = start .args in
+    (start .pre .0, omega (arith, start .pre, put-length (put-label .ensures), length-label (now (a .name)), length-threads (now (a .threads))))
 
 put-fill-requires : tie.Need-put-fill-requires
 put-fill-requires c κs =
-    let a = c .before .before .before .before .before .before .before .before .before .before .before .before .args in (
-      omega (arith, c .before .before .before .before .before .before .before .before .before .before .before .before .pre),
-      omega (arith, c .before .before .before .before .before .before .before .before .before .before .before .before .pre, put-length (c .before .before .before .before .before .before .before .put-label .ensures), put-length (c .before .before .before .put-colors .ensures), length-label (now (a .name)), length-entries (threadsOf (now (a .threads))), length-threads (now (a .threads))),
+    let put-colors = c .before .before .before .put-colors in let put-label = c .before .before .before .before .before .before .before .put-label in
+    let start = c .before .before .before .before .before .before .before .before .before .before .before .before in
+    let a = start .args in (
+      omega (arith, start .pre),
+      omega (
+        arith,
+        start .pre,
+        put-length (put-label .ensures),
+        put-length (put-colors .ensures),
+        length-label (now (a .name)),
+        length-entries (threadsOf (now (a .threads))),
+        length-threads (now (a .threads)),
+      ),
     )
 
 returns : tie.Need-returns
 returns c =
-    let a = c .before .before .before .before .before .before .before .before .before .before .before .before .before .before .before .args in
-    put-as (put-put (c .before .before .before .before .before .before .before .before .before .before .put-label .ensures) (put-put (c .before .before .before .before .before .before .put-colors .ensures) (c .before .before .put-fill .ensures)))
+    let put-colors = c .before .before .before .before .before .before .put-colors in
+    let put-label = c .before .before .before .before .before .before .before .before .before .before .put-label in
+    let early = c .before .before .before .before .before .before .before .before .before .before .before .before in
+    let start = early .before .before .before in
+    let a = start .args in
+    put-as (put-put (put-label .ensures) (put-put (put-colors .ensures) (c .before .before .put-fill .ensures)))
     (header-as (now (a .name)) (threadsOf (now (a .threads))) (sym (length-threads (now (a .threads)))))
 
 pub put-header-spec : {M : Type 1} → statement M

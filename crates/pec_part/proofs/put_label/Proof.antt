@@ -12,19 +12,45 @@ use Rattle.pec_part.proofs.put_label.Tie as tie
 
 put-requires : tie.Need-put-requires
 unfolding pecName
-put-requires c κs = omega (arith, put-length (c .before .before .before .before .before .before .before .put3 .ensures), put-length (c .before .before .before .put-name .ensures), simp leb·zero at (c .before .before .before .put-name .ensures .ends), length-name (now (c .before .before .before .before .before .before .before .before .before .before .before .args .name)))
+put-requires c κs =
+    let put-name = c .before .before .before .put-name in let put3 = c .before .before .before .before .before .before .before .put3 in
+    let start = c .before .before .before .before .before .before .before .before .before .before .before in
+    omega (arith, put-length (put3 .ensures), put-length (put-name .ensures), simp leb·zero at (put-name .ensures .ends), length-name (now (start .args .name)))
 
 put-times-requires : tie.Need-put-times-requires
 unfolding pecName
-put-times-requires c κs = omega (arith, put-length (c .before .before .before .before .before .before .before .before .before .before .before .put3 .ensures), put-length (c .before .before .before .before .before .before .before .put-name .ensures), simp leb·zero at (c .before .before .before .before .before .before .before .put-name .ensures .ends), put-length (c .before .before .before .put .ensures), length-name (now (c .before .before .before .before .before .before .before .before .before .before .before .before .before .before .before .args .name)))
+put-times-requires c κs =
+    let put = c .before .before .before .put in let put-name = c .before .before .before .before .before .before .before .put-name in
+    let at-put3 = c .before .before .before .before .before .before .before .before .before .before .before in let put3 = at-put3 .put3 in
+    let start = at-put3 .before .before .before .before in
+    omega (arith, put-length (put3 .ensures), put-length (put-name .ensures), simp leb·zero at (put-name .ensures .ends), put-length (put .ensures), length-name (now (start .args .name)))
 
 put4-requires : tie.Need-put4-requires
 unfolding pecName
-put4-requires c κs = omega (arith, put-length (c .before .before .before .before .before .before .before .before .before .before .before .before .before .before .before .put3 .ensures), put-length (c .before .before .before .before .before .before .before .before .before .before .before .put-name .ensures), simp leb·zero at (c .before .before .before .before .before .before .before .before .before .before .before .put-name .ensures .ends), put-length (c .before .before .before .before .before .before .before .put .ensures), put-length (c .before .before .before .put-times .ensures), length-name (now (c .before .before .before .before .before .before .before .before .before .before .before .before .before .before .before .before .before .before .before .args .name)))
+put4-requires c κs =
+    let put-times = c .before .before .before .put-times in let put = c .before .before .before .before .before .before .before .put in
+    let at-put-name = c .before .before .before .before .before .before .before .before .before .before .before in
+    let put-name = at-put-name .put-name in let put3 = at-put-name .before .before .before .before .put3 in
+    let start = at-put-name .before .before .before .before .before .before .before .before in
+    omega (
+      arith,
+      put-length (put3 .ensures),
+      put-length (put-name .ensures),
+      simp leb·zero at (put-name .ensures .ends),
+      put-length (put .ensures),
+      put-length (put-times .ensures),
+      length-name (now (start .args .name)),
+    )
 
 returns : tie.Need-returns
 unfolding joined pecName
-returns c = put-put (c .before .before .before .before .before .before .before .before .before .before .before .before .before .before .before .before .before .before .put3 .ensures) (put-put (simp leb·zero at (c .before .before .before .before .before .before .before .before .before .before .before .before .before .before .put-name .ensures)) (put-put (c .before .before .before .before .before .before .before .before .before .before .put .ensures) (put-put (c .before .before .before .before .before .before .put-times .ensures) (put-put (c .before .before .put4 .ensures) (put-nothing _ _)))))
+returns c =
+    let put-times = c .before .before .before .before .before .before .put-times in
+    let put = c .before .before .before .before .before .before .before .before .before .before .put in
+    let at-put-name = c .before .before .before .before .before .before .before .before .before .before .before .before .before .before in
+    let put-name = at-put-name .put-name in let put3 = at-put-name .before .before .before .before .put3 in
+    put-put (put3 .ensures) (put-put (simp leb·zero at (put-name .ensures))
+    (put-put (put .ensures) (put-put (put-times .ensures) (put-put (c .before .before .put4 .ensures) (put-nothing _ _)))))
 
 pub put-label-spec : {M : Type 1} → statement M
 put-label-spec =

@@ -18,11 +18,13 @@ put-text-requires c κs =
 
 write-pec-requires : tie.Need-write-pec-requires
 write-pec-requires c κs =
-    let a = c .before .before .before .before .before .before .before .before .before .before .args in
+    let put-text = c .before .before .before .put-text in
+    let start = c .before .before .before .before .before .before .before .before .before .before in
+    let a = start .args in
     let cs = commands (now (a .xs)) (now (a .ys)) (now (a .kinds)) in
     let ts = threadsOf (now (a .threads)) in
-    let g = c .before .before .before .before .before .before .before .before .before .before .pre .1 .0 in
-    (c .before .before .before .before .before .before .before .before .before .before .pre .0, ((g .long, (g .few, g .steps)), (g .bytes, omega (arith, pec-length (now (a .name)) cs ts, put-length (c .before .before .before .put-text .ensures), c .before .before .before .before .before .before .before .before .before .before .pre .1 .1))))
+    let g = start .pre .1 .0 in
+    (start .pre .0, ((g .long, (g .few, g .steps)), (g .bytes, omega (arith, pec-length (now (a .name)) cs ts, put-length (put-text .ensures), start .pre .1 .1))))
 
 returns : tie.Need-returns
 unfolding pecFile

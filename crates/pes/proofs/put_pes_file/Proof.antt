@@ -18,29 +18,38 @@ put-start-requires c κs =
 
 write-pes-blocks-requires : tie.Need-write-pes-blocks-requires
 write-pes-blocks-requires c κs =
-    let a = c .before .before .before .before .before .before .before .before .before .before .args in
+    let put-start = c .before .before .before .put-start in
+    let start′ = c .before .before .before .before .before .before .before .before .before .before in
+    let a = start′ .args in
     let cs = commands (now (a .xs)) (now (a .ys)) (now (a .kinds)) in
     let ts = threadsOf (now (a .threads)) in
-    let p = c .before .before .before .before .before .before .before .before .before .before .pre .1 .1 in
-    (c .before .before .before .before .before .before .before .before .before .before .pre .0, (c .before .before .before .before .before .before .before .before .before .before .pre .1 .0, ((p .0 .long, p .1 .0 .0), (p .1 .0 .1 .0, room-blocks (now (a .name)) cs ts (now (a .out)) (p .1 .1) _ (c .before .before .before .put-start .ensures)))))
+    let p = start′ .pre .1 .1 in
+    (start′ .pre .0, (start′ .pre .1 .0, ((p .0 .long, p .1 .0 .0), (p .1 .0 .1 .0, room-blocks (now (a .name)) cs ts (now (a .out)) (p .1 .1) _ (put-start .ensures)))))
 
 write-pec-requires : tie.Need-write-pec-requires
 write-pec-requires c κs =
-    let a = c .before .before .before .before .before .before .before .before .before .before .before .before .before .before .args in
+    let write-pes-blocks = c .before .before .before .write-pes-blocks in
+    let put-start = c .before .before .before .before .before .before .before .put-start in
+    let start′ = c .before .before .before .before .before .before .before .before .before .before .before .before .before .before in
+    let a = start′ .args in
     let cs = commands (now (a .xs)) (now (a .ys)) (now (a .kinds)) in
     let ts = threadsOf (now (a .threads)) in
-    let p = c .before .before .before .before .before .before .before .before .before .before .before .before .before .before .pre .1 .1 in
+    let p = start′ .pre .1 .1 in
     let g = p .0 in
-    (c .before .before .before .before .before .before .before .before .before .before .before .before .before .before .pre .0, ((g .long, (g .few, g .steps)), (g .bytes, room-part (now (a .name)) cs ts (now (a .out)) (p .1 .1) _ (c .before .before .before .before .before .before .before .put-start .ensures) (c .before .before .before .write-pes-blocks .ensures))))
+    (start′ .pre .0, ((g .long, (g .few, g .steps)), (g .bytes, room-part (now (a .name)) cs ts (now (a .out)) (p .1 .1) _ (put-start .ensures) (write-pes-blocks .ensures))))
 
 returns : tie.Need-returns
 returns c =
-    let a = c .before .before .before .before .before .before .before .before .before .before .before .before .before .before .before .before .before .args in
+    let write-pes-blocks = c .before .before .before .before .before .before .write-pes-blocks in
+    let put-start = c .before .before .before .before .before .before .before .before .before .before .put-start in
+    let at-blocks-len = c .before .before .before .before .before .before .before .before .before .before .before .before in
+    let blocks-len = at-blocks-len .blocks-len in let start′ = at-blocks-len .before .before .before .before .before in
+    let a = start′ .args in
     let cs = commands (now (a .xs)) (now (a .ys)) (now (a .kinds)) in
     let ts = threadsOf (now (a .threads)) in
-    let p = c .before .before .before .before .before .before .before .before .before .before .before .before .before .before .before .before .before .pre .1 .1 in
-    let e = ap (λ (n : ℕ). 22 + n) (c .before .before .before .before .before .before .before .before .before .before .before .before .blocks-len .ensures .0) ∙ start-long cs ts (a .z) (p .1 .0 .1 .0) in
-    put-as (put-put (c .before .before .before .before .before .before .before .before .before .before .put-start .ensures) (put-put (c .before .before .before .before .before .before .write-pes-blocks .ensures) (c .before .before .write-pec .ensures))) (file-as (now (a .name)) cs ts e)
+    let p = start′ .pre .1 .1 in
+    let e = ap (λ (n : ℕ). 22 + n) (blocks-len .ensures .0) ∙ start-long cs ts (a .z) (p .1 .0 .1 .0) in
+    put-as (put-put (put-start .ensures) (put-put (write-pes-blocks .ensures) (c .before .before .write-pec .ensures))) (file-as (now (a .name)) cs ts e)
 
 pub put-pes-file-spec : {M : Type 1} → statement M
 put-pes-file-spec =

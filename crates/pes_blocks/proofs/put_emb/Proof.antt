@@ -13,11 +13,18 @@ put-text-requires c κs = omega (arith, put-length (c .before .before .before .b
 
 put-times-requires : tie.Need-put-times-requires
 unfolding little
-put-times-requires c κs = omega (arith, put-length (c .before .before .before .before .before .before .before .before .put-short .ensures), put-length (c .before .before .before .put-text .ensures))
+put-times-requires c κs =
+    let put-text = c .before .before .before .put-text in
+    let put-short = c .before .before .before .before .before .before .before .before .put-short in
+    omega (arith, put-length (put-short .ensures), put-length (put-text .ensures))
 
 returns : tie.Need-returns
 unfolding joined shorts pesString little
-returns c = put-put (c .before .before .before .before .before .before .before .before .before .before .before .put-short .ensures) (put-put (c .before .before .before .before .before .before .put-text .ensures) (put-put (c .before .before .put-times .ensures) (put-nothing _ _)))
+returns c =
+    let put-text = c .before .before .before .before .before .before .put-text in
+    let at-put-short = c .before .before .before .before .before .before .before .before .before .before .before in
+    let put-short = at-put-short .put-short in
+    put-put (put-short .ensures) (put-put (put-text .ensures) (put-put (c .before .before .put-times .ensures) (put-nothing _ _)))
 
 pub put-emb-spec : {M : Type 1} → statement M
 put-emb-spec =

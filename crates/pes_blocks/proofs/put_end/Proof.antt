@@ -18,21 +18,27 @@ put-short-requires c κs =
 
 put-log-requires : tie.Need-put-log-requires
 put-log-requires c κs =
-    let a = c .before .before .before .before .before .before .before .before .args in
+    let put-short = c .before .before .before .put-short in let start = c .before .before .before .before .before .before .before .before in
+    let a = start .args in
     let cs = commands (now (a .xs)) (now (a .ys)) (now (a .kinds)) in
     let ts = threadsOf (now (a .threads)) in
-    (c .before .before .before .before .before .before .before .before .pre .0, (c .before .before .before .before .before .before .before .before .pre .1 .0, room-log (a .n) ts cs (now (a .out)) (a .at) (c .before .before .before .before .before .before .before .before .pre .1 .1) (c .before .before .before .put-short .ensures)))
+    (start .pre .0, (start .pre .1 .0, room-log (a .n) ts cs (now (a .out)) (a .at) (start .pre .1 .1) (put-short .ensures)))
 
 put-times-requires : tie.Need-put-times-requires
 put-times-requires c κs =
-    let a = c .before .before .before .before .before .before .before .before .before .before .before .before .args in
+    let put-log = c .before .before .before .put-log in let put-short = c .before .before .before .before .before .before .before .put-short in
+    let start = c .before .before .before .before .before .before .before .before .before .before .before .before in
+    let a = start .args in
     let cs = commands (now (a .xs)) (now (a .ys)) (now (a .kinds)) in
     let ts = threadsOf (now (a .threads)) in
-    room-zeros (a .n) ts cs (now (a .out)) (a .at) (c .before .before .before .before .before .before .before .before .before .before .before .before .pre .1 .1) (c .before .before .before .before .before .before .before .put-short .ensures) (c .before .before .before .put-log .ensures)
+    room-zeros (a .n) ts cs (now (a .out)) (a .at) (start .pre .1 .1) (put-short .ensures) (put-log .ensures)
 
 returns : tie.Need-returns
 unfolding joined shorts little
-returns c = put-put (c .before .before .before .before .before .before .before .before .before .before .put-short .ensures) (put-put (c .before .before .before .before .before .before .put-log .ensures) (put-put (c .before .before .put-times .ensures) (put-nothing _ _)))
+returns c =
+    let put-log = c .before .before .before .before .before .before .put-log in
+    let put-short = c .before .before .before .before .before .before .before .before .before .before .put-short in
+    put-put (put-short .ensures) (put-put (put-log .ensures) (put-put (c .before .before .put-times .ensures) (put-nothing _ _)))
 
 pub put-end-spec : {M : Type 1} → statement M
 put-end-spec =

@@ -16,11 +16,15 @@ abbrev bytes : Float → List ℕ
 bytes x = little 4 (toBits binary32 x)
 
 float-to-bits-put-word : tie.Need-float-to-bits-put-word
-float-to-bits-put-word c = no-nan (c .before .before .before .args .z) (c .before .before .before .pre .0) (rw (toZ-ofZ (c .before .before .before .fits .z)) at (c .half .ensures))
+float-to-bits-put-word c =
+    let start = c .before .before .before in
+    no-nan (start .args .z) (start .pre .0) (rw (toZ-ofZ (start .fits .z)) at (c .half .ensures))
 
 returns : tie.Need-returns
 unfolding matrixField
-returns c = put-as (c .before .before .put-word .ensures) (ap bytes (rw (toZ-ofZ (c .before .before .before .before .before .before .fits .z)) at (c .before .before .before .half .ensures)))
+returns c =
+    let half′ = c .before .before .before .half in let start = c .before .before .before .before .before .before in
+    put-as (c .before .before .put-word .ensures) (ap bytes (rw (toZ-ofZ (start .fits .z)) at (half′ .ensures)))
 
 pub put-field-spec : {M : Type 1} → statement M
 put-field-spec =

@@ -8,17 +8,39 @@ use Rattle.pes_blocks.proofs.put_frame.Statement.{statement}
 use Rattle.pes_blocks.proofs.put_frame.Tie as tie
 
 put-matrix-requires : tie.Need-put-matrix-requires
-put-matrix-requires c κs = (c .before .before .before .before .before .before .pre .0, omega (arith, put-length (c .before .before .before .put-emb .ensures), length-emb))
+put-matrix-requires c κs =
+    let put-emb = c .before .before .before .put-emb in let start = c .before .before .before .before .before .before in
+    (start .pre .0, omega (arith, put-length (put-emb .ensures), length-emb))
 
 put-sizes-requires : tie.Need-put-sizes-requires
-put-sizes-requires c κs = omega (arith, put-length (c .before .before .before .before .before .before .before .put-emb .ensures), length-emb, put-length (c .before .before .before .put-matrix .ensures), length-fields (c .before .before .before .before .before .before .before .before .before .before .args .w) (c .before .before .before .before .before .before .before .before .before .before .args .h))
+put-sizes-requires c κs =
+    let put-matrix = c .before .before .before .put-matrix in let put-emb = c .before .before .before .before .before .before .before .put-emb in
+    let start = c .before .before .before .before .before .before .before .before .before .before in
+    omega (arith, put-length (put-emb .ensures), length-emb, put-length (put-matrix .ensures), length-fields (start .args .w) (start .args .h))
 
 put-seg-requires : tie.Need-put-seg-requires
-put-seg-requires c κs = omega (arith, put-length (c .before .before .before .before .before .before .before .before .before .before .before .put-emb .ensures), length-emb, put-length (c .before .before .before .before .before .before .before .put-matrix .ensures), length-fields (c .before .before .before .before .before .before .before .before .before .before .before .before .before .before .args .w) (c .before .before .before .before .before .before .before .before .before .before .before .before .before .before .args .h), put-length (c .before .before .before .put-sizes .ensures), length-sizes (c .before .before .before .before .before .before .before .before .before .before .before .before .before .before .args .w) (c .before .before .before .before .before .before .before .before .before .before .before .before .before .before .args .h))
+put-seg-requires c κs =
+    let put-sizes = c .before .before .before .put-sizes in let put-matrix = c .before .before .before .before .before .before .before .put-matrix in
+    let at-put-emb = c .before .before .before .before .before .before .before .before .before .before .before in
+    let put-emb = at-put-emb .put-emb in let start = at-put-emb .before .before .before in
+    omega (
+      arith,
+      put-length (put-emb .ensures),
+      length-emb,
+      put-length (put-matrix .ensures),
+      length-fields (start .args .w) (start .args .h),
+      put-length (put-sizes .ensures),
+      length-sizes (start .args .w) (start .args .h),
+    )
 
 returns : tie.Need-returns
 unfolding joined
-returns c = put-put (c .before .before .before .before .before .before .before .before .before .before .before .before .before .before .put-emb .ensures) (put-put (c .before .before .before .before .before .before .before .before .before .before .put-matrix .ensures) (put-put (c .before .before .before .before .before .before .put-sizes .ensures) (put-put (c .before .before .put-seg .ensures) (put-nothing _ _))))
+returns c =
+    let put-sizes = c .before .before .before .before .before .before .put-sizes in
+    let put-matrix = c .before .before .before .before .before .before .before .before .before .before .put-matrix in
+    let at-put-emb = c .before .before .before .before .before .before .before .before .before .before .before .before .before .before in
+    let put-emb = at-put-emb .put-emb in
+    put-put (put-emb .ensures) (put-put (put-matrix .ensures) (put-put (put-sizes .ensures) (put-put (c .before .before .put-seg .ensures) (put-nothing _ _))))
 
 pub put-frame-spec : {M : Type 1} → statement M
 put-frame-spec =

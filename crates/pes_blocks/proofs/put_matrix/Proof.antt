@@ -15,29 +15,67 @@ put-field-requires-2 c κs = (omega arith, omega (arith, put-length (c .before .
 
 put-field-requires-3 : tie.Need-put-field-requires-3
 unfolding matrixField little
-put-field-requires-3 c κs = (omega arith, omega (arith, put-length (c .before .before .before .before .before .before .before .put-field .ensures), put-length (c .before .before .before .put-field2 .ensures)))
+put-field-requires-3 c κs =
+    let put-field2 = c .before .before .before .put-field2 in let put-field = c .before .before .before .before .before .before .before .put-field in
+    (omega arith, omega (arith, put-length (put-field .ensures), put-length (put-field2 .ensures)))
 
 put-field-requires-4 : tie.Need-put-field-requires-4
 unfolding matrixField little
-put-field-requires-4 c κs = (omega arith, omega (arith, put-length (c .before .before .before .before .before .before .before .before .before .before .before .put-field .ensures), put-length (c .before .before .before .before .before .before .before .put-field2 .ensures), put-length (c .before .before .before .put-field3 .ensures)))
+put-field-requires-4 c κs =
+    let put-field3 = c .before .before .before .put-field3 in
+    let put-field2 = c .before .before .before .before .before .before .before .put-field2 in
+    let at-put-field = c .before .before .before .before .before .before .before .before .before .before .before in
+    let put-field = at-put-field .put-field in
+    (omega arith, omega (arith, put-length (put-field .ensures), put-length (put-field2 .ensures), put-length (put-field3 .ensures)))
 
 sub-put-field : tie.Need-sub-put-field
-sub-put-field c = minus-fits (c .before .before .before .before .before .before .before .before .before .before .before .before .before .before .before .before .before .pre .0 .0)
+sub-put-field c =
+    let early = c .before .before .before .before .before .before .before .before .before .before .before .before in
+    let start = early .before .before .before .before .before in
+    minus-fits (start .pre .0 .0)
 
 put-field-requires-5 : tie.Need-put-field-requires-5
 unfolding matrixField little
-put-field-requires-5 c κs = (minus-small (c .before .before .before .before .before .before .before .before .before .before .before .before .before .before .before .before .before .before .pre .0 .0), omega (arith, put-length (c .before .before .before .before .before .before .before .before .before .before .before .before .before .before .before .put-field .ensures), put-length (c .before .before .before .before .before .before .before .before .before .before .before .put-field2 .ensures), put-length (c .before .before .before .before .before .before .before .put-field3 .ensures), put-length (c .before .before .before .put-field4 .ensures)))
+put-field-requires-5 c κs =
+    let put-field4 = c .before .before .before .put-field4 in
+    let put-field3 = c .before .before .before .before .before .before .before .put-field3 in
+    let at-put-field2 = c .before .before .before .before .before .before .before .before .before .before .before in
+    let put-field2 = at-put-field2 .put-field2 in let put-field = at-put-field2 .before .before .before .before .put-field in
+    let start = at-put-field2 .before .before .before .before .before .before .before in
+    (minus-small (start .pre .0 .0), omega (arith, put-length (put-field .ensures), put-length (put-field2 .ensures), put-length (put-field3 .ensures), put-length (put-field4 .ensures)))
 
 put-field-requires-6 : tie.Need-put-field-requires-6
 unfolding matrixField little
-put-field-requires-6 c κs = (plus-small (c .before .before .before .before .before .before .before .before .before .before .before .before .before .before .before .before .before .before .before .before .before .before .pre .0 .1), omega (arith, put-length (c .before .before .before .before .before .before .before .before .before .before .before .before .before .before .before .before .before .before .before .put-field .ensures), put-length (c .before .before .before .before .before .before .before .before .before .before .before .before .before .before .before .put-field2 .ensures), put-length (c .before .before .before .before .before .before .before .before .before .before .before .put-field3 .ensures), put-length (c .before .before .before .before .before .before .before .put-field4 .ensures), put-length (c .before .before .before .put-field5 .ensures)))
+put-field-requires-6 c κs =
+    let put-field5 = c .before .before .before .put-field5 in
+    let put-field4 = c .before .before .before .before .before .before .before .put-field4 in
+    let at-put-field3 = c .before .before .before .before .before .before .before .before .before .before .before in
+    let put-field3 = at-put-field3 .put-field3 in let put-field2 = at-put-field3 .before .before .before .before .put-field2 in
+    let put-field = at-put-field3 .before .before .before .before .before .before .before .before .put-field in
+    let start = at-put-field3 .before .before .before .before .before .before .before .before .before .before .before in (
+      plus-small (start .pre .0 .1),
+      omega (
+        arith,
+        put-length (put-field .ensures),
+        put-length (put-field2 .ensures),
+        put-length (put-field3 .ensures),
+        put-length (put-field4 .ensures),
+        put-length (put-field5 .ensures),
+      ),
+    )
 
 returns : tie.Need-returns
 unfolding joined
 returns c =
-    let x = put-as (c .before .before .before .before .before .before .put-field5 .ensures) (ap matrixField (minus-is (c .before .before .before .before .before .before .before .before .before .before .before .before .before .before .before .before .before .before .before .before .before .before .before .before .before .pre .0 .0))) in
-    let y = put-as (c .before .before .put-field6 .ensures) (ap matrixField (plus-is (c .before .before .before .before .before .before .before .before .before .before .before .before .before .before .before .before .before .before .before .before .before .before .before .before .before .pre .0 .1))) in
-    put-put (c .before .before .before .before .before .before .before .before .before .before .before .before .before .before .before .before .before .before .before .before .before .before .put-field .ensures) (put-put (c .before .before .before .before .before .before .before .before .before .before .before .before .before .before .before .before .before .before .put-field2 .ensures) (put-put (c .before .before .before .before .before .before .before .before .before .before .before .before .before .before .put-field3 .ensures) (put-put (c .before .before .before .before .before .before .before .before .before .before .put-field4 .ensures) (put-put x (put-put y (put-nothing _ _))))))
+    let put-field5 = c .before .before .before .before .before .before .put-field5 in
+    let put-field4 = c .before .before .before .before .before .before .before .before .before .before .put-field4 in
+    let at-put-field3 = c .before .before .before .before .before .before .before .before .before .before .before .before .before .before in
+    let put-field3 = at-put-field3 .put-field3 in let put-field2 = at-put-field3 .before .before .before .before .put-field2 in
+    let put-field = at-put-field3 .before .before .before .before .before .before .before .before .put-field in
+    let start = at-put-field3 .before .before .before .before .before .before .before .before .before .before .before in
+    let x = put-as (put-field5 .ensures) (ap matrixField (minus-is (start .pre .0 .0))) in
+    let y = put-as (c .before .before .put-field6 .ensures) (ap matrixField (plus-is (start .pre .0 .1))) in
+    put-put (put-field .ensures) (put-put (put-field2 .ensures) (put-put (put-field3 .ensures) (put-put (put-field4 .ensures) (put-put x (put-put y (put-nothing _ _))))))
 
 pub put-matrix-spec : {M : Type 1} → statement M
 put-matrix-spec =

@@ -14,8 +14,20 @@ put-frame-requires c κs =
     let a = c .before .before .before .before .before .before .before .before .before .before .args in
     let cs = commands (now (a .xs)) (now (a .ys)) (now (a .kinds)) in
     let ts = threadsOf (now (a .threads)) in
-    let w = width-is cs (c .before .before .before .before .before .before .before .before .before .before .pre .0) (search (needs, c .before .before .before .before .before .before .struct-told .given)) (search (needs, c .before .before .before .before .before .struct-told2 .given)) (c .before .before .before .before .spread .ensures) in
-    let h = height-is cs (c .before .before .before .before .before .before .before .before .before .before .pre .0) (search (needs, c .before .before .before .struct-told3 .given)) (search (needs, c .before .before .struct-told4 .given)) (c .before .spread2 .ensures) in
+    let w = width-is cs (c .before .before .before .before .before .before .before .before .before .before .pre .0) (search (
+      needs,
+      c .before
+          .before .before .before .before .before .struct-told .given,
+    )) (search (
+      needs,
+      c .before .before .before .before
+          .before .struct-told2 .given,
+    )) (c .before .before .before .before .spread .ensures) in
+    let h = height-is cs (c .before .before .before .before .before .before .before .before .before .before .pre .0) (search (
+      needs,
+      c .before
+          .before .before .struct-told3 .given,
+    )) (search (needs, c .before .before .struct-told4 .given)) (c .before .spread2 .ensures) in
     let p = small-width cs (c .before .before .before .before .before .before .before .before .before .before .pre .1 .1 .0 .1) in
     let q = small-height cs (c .before .before .before .before .before .before .before .before .before .before .pre .1 .1 .0 .1) in
     ((omega arith, omega arith), room-frame cs ts (now (a .out)) (a .at) (c .before .before .before .before .before .before .before .before .before .before .pre .1 .1 .1 .1))
@@ -25,12 +37,26 @@ put-sections-requires c κs =
     let a = c .before .before .before .before .before .before .before .before .before .before .before .before .before .before .before .before .args in
     let cs = commands (now (a .xs)) (now (a .ys)) (now (a .kinds)) in
     let ts = threadsOf (now (a .threads)) in
-    let l = left-is cs (c .before .before .before .before .before .before .before .before .before .before .before .before .before .before .before .before .pre .0) (search (needs, c .before .before .before .before .before .before .before .before .before .before .before .before .struct-told .given)) in
-    let b = bottom-is cs (c .before .before .before .before .before .before .before .before .before .before .before .before .before .before .before .before .pre .0) (search (needs, c .before .before .before .before .before .before .before .before .struct-told4 .given)) in (
+    let l = left-is cs (c .before .before .before .before .before .before .before .before .before .before .before .before .before .before
+    .before .before .pre .0) (search (needs, c .before .before .before .before .before .before .before .before .before .before .before .before .struct-told .given)) in
+    let b = bottom-is cs (c .before .before .before .before .before .before .before .before .before .before .before .before .before .before
+    .before .before .pre .0) (search (needs, c .before .before .before .before .before .before .before .before .struct-told4 .given)) in (
       c .before .before .before .before .before .before .before .before .before .before .before .before .before .before .before .before .pre .1 .0,
       (
-        (c .before .before .before .before .before .before .before .before .before .before .before .before .before .before .before .before .pre .1 .1 .0 .0, (near-start cs (c .before .before .before .before .before .before .before .before .before .before .before .before .before .before .before .before .pre .1 .1 .0 .1) l b, near-all cs (c .before .before .before .before .before .before .before .before .before .before .before .before .before .before .before .before .pre .1 .1 .0 .1) l b)),
-        room-sections cs ts (now (a .out)) (a .at) (c .before .before .before .before .before .before .before .before .before .before .before .before .before .before .before .before .pre .1 .1 .1 .1) (c .before .before .before .before .before .before .before .before .before .before .spread .result) (c .before .before .before .before .before .before .before .spread2 .result) (a .z .sections) (c .before .before .before .before .before .put-frame .ensures) l b,
+        (
+          c .before .before .before .before .before .before .before .before .before .before .before .before .before .before .before
+              .before .pre .1 .1 .0 .0,
+          (
+            near-start cs (c .before .before .before .before .before .before .before .before .before .before
+                .before .before .before .before .before .before .pre .1 .1 .0 .1) l b,
+            near-all cs (c .before .before .before .before .before
+                .before .before .before .before .before .before .before .before .before .before .before .pre .1 .1 .0 .1) l b,
+          ),
+        ),
+        room-sections cs ts (now (a .out)) (a .at) (c .before .before .before .before .before .before .before .before .before .before .before
+            .before .before .before .before .before .pre .1 .1 .1 .1) (c .before .before .before .before .before .before .before .before
+            .before .before .spread .result) (c .before .before .before .before .before .before .before .spread2 .result) (a .z .sections)
+            (c .before .before .before .before .before .put-frame .ensures) l b,
       ),
     )
 
@@ -39,26 +65,73 @@ put-end-requires c κs =
     let a = c .before .before .before .before .before .before .before .before .before .before .before .before .before .before .before .before .before .before .before .before .args in
     let cs = commands (now (a .xs)) (now (a .ys)) (now (a .kinds)) in
     let ts = threadsOf (now (a .threads)) in
-    let l = left-is cs (c .before .before .before .before .before .before .before .before .before .before .before .before .before .before .before .before .before .before .before .before .pre .0) (search (needs, c .before .before .before .before .before .before .before .before .before .before .before .before .before .before .before .before .struct-told .given)) in
-    let b = bottom-is cs (c .before .before .before .before .before .before .before .before .before .before .before .before .before .before .before .before .before .before .before .before .pre .0) (search (needs, c .before .before .before .before .before .before .before .before .before .before .before .before .struct-told4 .given)) in (
+    let l = left-is cs (c .before .before .before .before .before .before .before .before .before .before .before .before .before .before
+    .before .before .before .before .before .before .pre .0) (search (
+      needs,
+      c .before .before .before .before .before .before .before
+          .before .before .before .before .before .before .before .before .before .struct-told .given,
+    )) in
+    let b = bottom-is cs (c .before .before .before .before .before .before .before .before .before .before .before .before .before .before
+    .before .before .before .before .before .before .pre .0) (search (
+      needs,
+      c .before .before .before .before .before .before .before
+          .before .before .before .before .before .struct-told4 .given,
+    )) in (
       c .before .before .before .before .before .before .before .before .before .before .before .before .before .before .before .before .before .before .before .before .pre .1 .0,
       (
         c .before .before .before .before .before .before .before .before .before .before .before .before .before .before .before .before .before .before .before .before .pre .1 .1 .0 .0,
-        room-end cs ts (now (a .out)) (a .at) (c .before .before .before .before .before .before .before .before .before .before .before .before .before .before .before .before .before .before .before .before .pre .1 .1 .1 .1) (c .before .before .before .before .before .before .before .before .before .before .before .before .before .before .spread .result) (c .before .before .before .before .before .before .before .before .before .before .before .spread2 .result) (a .z .sections) (c .before .before .before .before .before .before .before .before .before .put-frame .ensures) l b (c .before .before .before .put-sections .ensures) (a .z .logged),
+        room-end cs ts (now (a .out)) (a .at) (c .before .before .before .before .before .before .before .before .before .before .before
+            .before .before .before .before .before .before .before .before .before .pre .1 .1 .1 .1) (c .before .before .before .before
+            .before .before .before .before .before .before .before .before .before .before .spread .result) (c .before .before .before
+            .before .before .before .before .before .before .before .before .spread2 .result) (a .z .sections) (c .before .before
+            .before .before .before .before .before .before .before .put-frame .ensures) l b (c .before .before .before .put-sections .ensures) (a .z .logged),
       ),
     )
 
 returns : tie.Need-returns
 returns c =
-    let a = c .before .before .before .before .before .before .before .before .before .before .before .before .before .before .before .before .before .before .before .before .before .before .before .args in
+    let a = c .before .before .before .before .before .before .before .before .before .before .before .before .before .before .before .before
+    .before .before .before .before .before .before .before .args in
     let cs = commands (now (a .xs)) (now (a .ys)) (now (a .kinds)) in
     let ts = threadsOf (now (a .threads)) in
-    let w = width-is cs (c .before .before .before .before .before .before .before .before .before .before .before .before .before .before .before .before .before .before .before .before .before .before .before .pre .0) (search (needs, c .before .before .before .before .before .before .before .before .before .before .before .before .before .before .before .before .before .before .before .struct-told .given)) (search (needs, c .before .before .before .before .before .before .before .before .before .before .before .before .before .before .before .before .before .before .struct-told2 .given)) (c .before .before .before .before .before .before .before .before .before .before .before .before .before .before .before .before .before .spread .ensures) in
-    let h = height-is cs (c .before .before .before .before .before .before .before .before .before .before .before .before .before .before .before .before .before .before .before .before .before .before .before .pre .0) (search (needs, c .before .before .before .before .before .before .before .before .before .before .before .before .before .before .before .before .struct-told3 .given)) (search (needs, c .before .before .before .before .before .before .before .before .before .before .before .before .before .before .before .struct-told4 .given)) (c .before .before .before .before .before .before .before .before .before .before .before .before .before .before .spread2 .ensures) in
-    let l = left-is cs (c .before .before .before .before .before .before .before .before .before .before .before .before .before .before .before .before .before .before .before .before .before .before .before .pre .0) (search (needs, c .before .before .before .before .before .before .before .before .before .before .before .before .before .before .before .before .before .before .before .struct-told .given)) in
-    let b = bottom-is cs (c .before .before .before .before .before .before .before .before .before .before .before .before .before .before .before .before .before .before .before .before .before .before .before .pre .0) (search (needs, c .before .before .before .before .before .before .before .before .before .before .before .before .before .before .before .struct-told4 .given)) in
-    let m = c .before .before .before .before .before .before .before .before .before .before .before .before .before .before .before .before .before .before .before .before .before .before .before .pre .1 .1 .1 .0 in
-    blocks-put cs ts (a .z .logged) w h (m .count) (m .log) l b (c .before .before .before .before .before .before .before .before .before .before .before .before .put-frame .ensures) (c .before .before .before .before .before .before .put-sections .ensures) (c .before .before .put-end .ensures)
+    let w = width-is cs (c .before .before .before .before .before .before .before .before .before .before .before .before .before .before
+    .before .before .before .before .before .before .before .before .before .pre .0) (search (
+      needs,
+      c .before .before .before .before
+          .before .before .before .before .before .before .before .before .before .before .before .before .before .before
+          .before .struct-told .given,
+    )) (search (
+      needs,
+      c .before .before .before .before .before .before .before .before .before
+          .before .before .before .before .before .before .before .before .before .struct-told2 .given,
+    )) (c .before .before .before
+    .before .before .before .before .before .before .before .before .before .before .before .before .before .before .spread .ensures) in
+    let h = height-is cs (c .before .before .before .before .before .before .before .before .before .before .before .before .before .before
+    .before .before .before .before .before .before .before .before .before .pre .0) (search (
+      needs,
+      c .before .before .before .before
+          .before .before .before .before .before .before .before .before .before .before .before .before .struct-told3 .given,
+    )) (search (
+      needs,
+      c .before .before .before .before .before .before .before .before .before .before .before .before .before .before
+          .before .struct-told4 .given,
+    )) (c .before .before .before .before .before .before .before .before .before .before .before .before .before .before .spread2 .ensures) in
+    let l = left-is cs (c .before .before .before .before .before .before .before .before .before .before .before .before .before .before
+    .before .before .before .before .before .before .before .before .before .pre .0) (search (
+      needs,
+      c .before .before .before .before
+          .before .before .before .before .before .before .before .before .before .before .before .before .before .before .before .struct-told .given,
+    )) in
+    let b = bottom-is cs (c .before .before .before .before .before .before .before .before .before .before .before .before .before .before
+    .before .before .before .before .before .before .before .before .before .pre .0) (search (
+      needs,
+      c .before .before .before .before
+          .before .before .before .before .before .before .before .before .before .before .before .struct-told4 .given,
+    )) in
+    let m = c .before .before .before .before .before .before .before .before .before .before .before .before .before .before .before .before
+    .before .before .before .before .before .before .before .pre .1 .1 .1 .0 in
+    blocks-put cs ts (a .z .logged) w h (m .count) (m .log) l b (c .before .before .before .before .before .before .before .before .before
+    .before .before .before .put-frame .ensures) (c .before .before .before .before .before .before .put-sections .ensures) (c .before .before .put-end .ensures)
 
 pub write-pes-blocks-spec : {M : Type 1} → statement M
 write-pes-blocks-spec =

@@ -12,11 +12,15 @@ returns c = let a = c .before .before .args in rw (lt-leb (2 * a .c .points) (a 
 
 returns-2 : tie.Need-returns-2
 unfolding roomFor
-returns-2 c = let a = c .before .before .before .before .args in rw (le-leb (2 * a .c .points) (a .places) (c .before .before .if1 .left), lt-leb (a .c .runs) (a .runs) (c .if2 .taken))
+returns-2 c =
+    let start = c .before .before .before .before in
+    let a = start .args in rw (le-leb (2 * a .c .points) (a .places) (c .before .before .if1 .left), lt-leb (a .c .runs) (a .runs) (c .if2 .taken))
 
 returns-3 : tie.Need-returns-3
 unfolding roomFor
-returns-3 c = let a = c .before .before .before .before .before .args in rw (le-leb (2 * a .c .points) (a .places) (c .before .before .before .if1 .left), le-leb (a .c .runs) (a .runs) (c .before .if2 .left))
+returns-3 c =
+    let if1 = c .before .before .before .if1 in let start = c .before .before .before .before .before in
+    let a = start .args in rw (le-leb (2 * a .c .points) (a .places) (if1 .left), le-leb (a .c .runs) (a .runs) (c .before .if2 .left))
 
 pub has-room-spec : {M : Type 1} → statement M
 has-room-spec =

@@ -10,7 +10,7 @@ use mathlib.Core.Path.{_≡_, sym, subst, _∙_}
 use native.Mathlib.Omega.{arith}
 use borrow.Author.Tests.{leb-false}
 use denote.Ref.{now}
-use Rattle.header.proofs.Colors.{word-there, word-missing}
+use Rattle.read_header.proofs.Colors.{word-there, word-missing}
 use Rattle.read.proofs.Stitches.{jef-none, jef-from}
 use borrow.Author.Needs.{needs}
 use Rattle.read.proofs.jef_stitches.Statement.{statement}
@@ -18,8 +18,9 @@ use Rattle.read.proofs.jef_stitches.Tie as tie
 
 returns : tie.Need-returns
 returns c =
-    let s = now (c .before .before .before .before .before .args .file) in
-    absurd (omega (arith, c .before .before .before .before .before .pre, leb-false 4 (length s) (word-missing 0 s (sym (c .before .before .before .i32le .ensures) ∙ c .before .enum-told .given .1))))
+    let i32le = c .before .before .before .i32le in let start = c .before .before .before .before .before in
+    let s = now (start .args .file) in
+    absurd (omega (arith, start .pre, leb-false 4 (length s) (word-missing 0 s (sym (i32le .ensures) ∙ c .before .enum-told .given .1))))
 
 returns-2 : tie.Need-returns-2
 returns-2 c =

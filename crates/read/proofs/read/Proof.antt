@@ -12,7 +12,12 @@ returns c = let v = sym (c .before .before .extension-of .ensures) ∙ c .enum-t
 
 returns-2 : tie.Need-returns-2
 unfolding placesTold runsTold blocksTold
-returns-2 c = let v = sym (c .before .before .before .before .before .before .before .before .before .before .before .before .extension-of .ensures) ∙ c .before .before .before .before .before .before .before .before .before .before .named .given .1 in rw v (c .before .before .before .before .before .read-stitch-file .ensures)
+returns-2 c =
+    let read-stitch-file = c .before .before .before .before .before .read-stitch-file in
+    let named = c .before .before .before .before .before .before .before .before .before .before .named in
+    let at-extension-of = c .before .before .before .before .before .before .before .before .before .before .before .before in
+    let extension-of = at-extension-of .extension-of in
+    let v = sym (extension-of .ensures) ∙ named .given .1 in rw v (read-stitch-file .ensures)
 
 pub read-spec : {M : Type 1} → statement M
 read-spec =

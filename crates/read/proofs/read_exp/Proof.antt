@@ -1,9 +1,9 @@
 -- No colours are stored.
 use mathlib.Core.Path.{refl}
 use Rattle.rules.specs.Files.{eventsOf, colourOf, stored, placesOf, runsOf, blocksOf}
-use Rattle.records.specs.Firsts.{firstOf}
+use Rattle.read_records.specs.Firsts.{firstOf}
 use Rattle.rules.specs.declared.Format.the-variants.{Exp}
-use Rattle.builder.specs.Colour.{colourIn}
+use Rattle.read_builder.specs.Colour.{colourIn}
 use Rattle.read.proofs.Colours.{answered-as}
 use borrow.Author.Needs.{needs}
 use Rattle.read.proofs.read_exp.Statement.{statement}

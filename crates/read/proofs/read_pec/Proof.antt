@@ -16,19 +16,26 @@ array-share-prefix-colors : tie.Need-array-share-prefix-colors
 array-share-prefix-colors c = omega (arith, c .before .before .pec-colors .ensures .0 .room, c .before .before .pec-colors .kept .1 .1 .0)
 
 slice-aggregate-read-records : tie.Need-slice-aggregate-read-records
-slice-aggregate-read-records c = sym (length-take-le (c .before .before .before .pec-colors .result) (c .before .before .before .pec-colors .last .1 .1 .0) (omega (arith, c .before .before .before .pec-colors .ensures .0 .room, c .before .before .before .pec-colors .kept .1 .1 .0)))
+slice-aggregate-read-records c =
+    let pec-colors = c .before .before .before .pec-colors in
+    sym (length-take-le (pec-colors .result) (pec-colors .last .1 .1 .0) (omega (arith, pec-colors .ensures .0 .room, pec-colors .kept .1 .1 .0)))
 
 read-records-requires : tie.Need-read-records-requires
 read-records-requires c κs =
-    let a = c .before .before .before .before .before .before .before .before .before .before .before .args in
-    rw (c .before .before .before .before .rest .ensures) (omega (arith, length-drop (a .start + 528) (now (a .file)), c .before .before .before .before .before .before .before .before .before .before .before .pre))
+    let rest = c .before .before .before .before .rest in
+    let start = c .before .before .before .before .before .before .before .before .before .before .before in
+    let a = start .args in
+    rw (rest .ensures) (omega (arith, length-drop (a .start + 528) (now (a .file)), start .pre))
 
 returns : tie.Need-returns
 returns c =
-    let a = c .before .before .before .before .before .before .before .before .before .before .before .before .before .before .before .before .before .args in
+    let read-records = c .before .before .before .before .before .read-records in
+    let rest = c .before .before .before .before .before .before .before .before .before .before .rest in
+    let at-pec-colors = c .before .before .before .before .before .before .before .before .before .before .before .before in
+    let p = at-pec-colors .pec-colors in let start = at-pec-colors .before .before .before .before .before in
+    let a = start .args in
     let s = now (a .file) in
-    let p = c .before .before .before .before .before .before .before .before .before .before .before .before .pec-colors in
-    answered-as Pec (stored-colour (pecColor (a .start) s) _ _ (p .ensures .0) (omega (arith, p .ensures .0 .room, p .kept .1 .1 .0))) (c .before .before .before .before .before .before .before .before .before .before .rest .ensures) (c .before .before .before .before .before .read-records .ensures)
+    answered-as Pec (stored-colour (pecColor (a .start) s) _ _ (p .ensures .0) (omega (arith, p .ensures .0 .room, p .kept .1 .1 .0))) (rest .ensures) (read-records .ensures)
 
 pub read-pec-spec : {M : Type 1} → statement M
 read-pec-spec =

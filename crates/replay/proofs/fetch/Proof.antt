@@ -5,9 +5,6 @@ use borrow.Author.Needs.{needs}
 use Rattle.replay.proofs.fetch.Statement.{statement}
 use Rattle.replay.proofs.fetch.Tie as tie
 
-slice-aggregate-read-full : tie.Need-slice-aggregate-read-full
-slice-aggregate-read-full c = simp length-take (omega arith)
-
 returns : tie.Need-returns
 returns c = let f = c .before .before .read-full in omega (arith, f .ensures, simp length-take at (f .kept .1 .0))
 
@@ -15,4 +12,4 @@ pub fetch-spec : {M : Type 1} → statement M
 fetch-spec =
     tie.close
     (tie.spec
-    (λ c. search needs) slice-aggregate-read-full (λ c κs. search needs) (λ c. search needs) returns)
+    (λ c. search needs) (λ c. simp length-take (omega arith)) (λ c κs. search needs) (λ c. search needs) returns)

@@ -7,11 +7,15 @@ use Rattle.stitch_box.proofs.read_back.Tie as tie
 
 returns : tie.Need-returns
 unfolding backAnswer
-returns c = record { answer = _; read = c .before .before .before .before .before .before .before .before .read .ensures; told = rw (c .before .told .given .1) }
+returns c =
+    let read′ = c .before .before .before .before .before .before .before .before .read in
+    record { answer = _; read = read′ .ensures; told = rw (c .before .told .given .1) }
 
 returns-2 : tie.Need-returns-2
 unfolding backAnswer
-returns-2 c = record { answer = _; read = c .before .before .before .before .before .before .before .before .read .ensures; told = rw (c .before .told2 .given .1) }
+returns-2 c =
+    let read′ = c .before .before .before .before .before .before .before .before .read in
+    record { answer = _; read = read′ .ensures; told = rw (c .before .told2 .given .1) }
 
 pub read-back-spec : {M : Type 1} → statement M
 read-back-spec =

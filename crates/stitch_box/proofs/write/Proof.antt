@@ -12,7 +12,10 @@ returns c = let v = sym (c .before .before .extension-of .ensures) ∙ c .enum-t
 
 returns-2 : tie.Need-returns-2
 unfolding fileTold
-returns-2 c = let v = sym (c .before .before .before .before .before .before .before .extension-of .ensures) ∙ c .before .before .before .before .before .named .given .1 in rw v (c .before .before .write-stitch-file .ensures)
+returns-2 c =
+    let named = c .before .before .before .before .before .named in
+    let extension-of = c .before .before .before .before .before .before .before .extension-of in
+    let v = sym (extension-of .ensures) ∙ named .given .1 in rw v (c .before .before .write-stitch-file .ensures)
 
 pub write-spec : {M : Type 1} → statement M
 write-spec =

@@ -11,7 +11,11 @@ slice-aggregate-read-back : tie.Need-slice-aggregate-read-back
 slice-aggregate-read-back c = front-long (c .before .before .before .before .before .before .write .ensures) (c .before .before .written .given .1)
 
 returns : tie.Need-returns
-returns c = both (c .before .before .before .before .before .before .before .before .before .before .before .before .before .before .before .write .ensures) (c .before .before .before .before .before .before .before .before .before .before .before .written .given .1) (c .before .before .before .before .before .read-back .ensures)
+returns c =
+    let read-back = c .before .before .before .before .before .read-back in
+    let at-written = c .before .before .before .before .before .before .before .before .before .before .before in
+    let written = at-written .written in let write′ = at-written .before .before .before .before .write in
+    both (write′ .ensures) (written .given .1) (read-back .ensures)
 
 returns-2 : tie.Need-returns-2
 returns-2 c = none (c .before .before .before .before .before .write .ensures) (c .before .written2 .given .1) _ _ _

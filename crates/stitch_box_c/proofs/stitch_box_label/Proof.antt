@@ -9,9 +9,10 @@ use Rattle.stitch_box_c.proofs.stitch_box_label.Tie as tie
 
 returns : tie.Need-returns
 returns c =
-    let s = now (c .before .before .before .before .before .before .args .file) in
-    let x = extensionOf (now (c .before .before .before .before .before .before .args .ext)) in
-    let t = by-answer (fileVerdict x s) s (labelTold x s) (c .before .before .before .label-answer .result) (c .before .before .before .label-answer .ensures) in
+    let label-answer = c .before .before .before .label-answer in let start = c .before .before .before .before .before .before in
+    let s = now (start .args .file) in
+    let x = extensionOf (now (start .args .ext)) in
+    let t = by-answer (fileVerdict x s) s (labelTold x s) (label-answer .result) (label-answer .ensures) in
     let w = c .put-label .ensures in
     record { number = rw (w .0) (t .0); place = rw (w .1, w .2) (t .1) }
 

@@ -1,4 +1,5 @@
--- A walk of the code, since a slice of records is not covered; of each call it knows the contract alone. The buffer goes to `write_cmds` for good, and the
+-- A walk of the code, since a slice of records is not covered; of each call it knows the contract alone. The buffer goes to `write_cmds`
+-- for good, and the
 -- place of the length to `put_length`. Of a shared slice one copy is kept for the exit.
 -- Assumes nothing.
 use mathlib.Core.Path.{_≡_, refl}
@@ -45,10 +46,10 @@ use Rattle.rules.specs.declared.WriteAnswer.{WriteAnswer}
 use Rattle.rules.proofs.Cmd as T
 use Rattle.rules.proofs.WriteAnswer as An
 use Rattle.rules.proofs.WriteAnswer.Laws as An′
-use Rattle.cmds.proofs.write_cmds.Symbol.{name as #g}
-use Rattle.cmds.proofs.write_cmds as wri
-use Rattle.cmds.proofs.write_cmds.Symbol as wri-def
-use Rattle.cmds.proofs.write_cmds.Met as wri-thm
+use Rattle.stitch_box_cmds.proofs.write_cmds.Symbol.{name as #g}
+use Rattle.stitch_box_cmds.proofs.write_cmds as wri
+use Rattle.stitch_box_cmds.proofs.write_cmds.Symbol as wri-def
+use Rattle.stitch_box_cmds.proofs.write_cmds.Met as wri-thm
 use Rattle.stitch_box_c.proofs.put_length.Symbol.{name as #p}
 use Rattle.stitch_box_c.proofs.put_length as put
 use Rattle.stitch_box_c.proofs.put_length.Symbol as put-def
@@ -59,7 +60,16 @@ use Rattle.stitch_box_c.proofs.stitch_box_write_cmds.Statement as state
 use Rattle.stitch_box_c.proofs.stitch_box_write_cmds.Code as code
 
 abbrev stayed : Stays (f.ended .signature .params) (f.ended .kept)
-stayed = (stay-none-slice (0 ∷ []) tt (plain (λ _. u8)) yes, (stay-none-slice (1 ∷ []) tt (plain (λ _. u8)) yes, (stay-none-slice (2 ∷ []) tt (plain (λ _. T.the-row)) yes, (stay-none-slice (3 ∷ []) tt (plain (λ _. u8)) yes, (gave-slice (4 ∷ []) tt (plain (λ _. u8)), (gave-ref (5 ∷ []) tt (plain (λ _. u64)), tt))))))
+stayed = (
+  stay-none-slice (0 ∷ []) tt (plain (λ _. u8)) yes,
+  (
+    stay-none-slice (1 ∷ []) tt (plain (λ _. u8)) yes,
+    (
+      stay-none-slice (2 ∷ []) tt (plain (λ _. T.the-row)) yes,
+      (stay-none-slice (3 ∷ []) tt (plain (λ _. u8)) yes, (gave-slice (4 ∷ []) tt (plain (λ _. u8)), (gave-ref (5 ∷ []) tt (plain (λ _. u64)), tt))),
+    ),
+  ),
+)
 
 -- the contracts of the two calls
 abbrev G : {M : Type 1} (𝓤 : URA M) (H : Heap 𝓤) (A : Atoms 𝓤) (mem : Memory → SProp 𝓤) (run : Routine → Fun 𝓤) → Contract 𝓤
@@ -153,12 +163,16 @@ module _ {M : Type 1} (𝓤 : URA M) (H : Heap 𝓤) (A : Atoms 𝓤) (W : Given
   Putting a r z′ = (r ≡ writeNumber a) × (z′ ≡ writeLength a)
 
   exits : (r : ℕ) (v : Val) (o′ : List ℕ) (z′ : ℕ) → WroteNumbers (extensionOf ex) nm (xsOf cs) (ysOf cs) (kindsOf cs) ts os o′ r z′ → length o′ ≡ length os
-      → ent 𝓤 (⋆ 𝓤 H A (‵ (flft κe qe) ∷ ‵ (flft κm qm) ∷ ‵ (flft κ q) ∷ ‵ (flft κt qt) ∷ ‵ (flft κo qo) ∷ ‵ (flft κz qz) ∷ ‵ Own-e ∷ ‵ Own-n ∷ ‵ Own-c ∷ ‵ Own-t ∷ ‵ (finally u8 γo o′) ∷ ‵ (fres γz (u64 .coded .code z′)) ∷ ‵ (u32 .own r (v ∷ [])) ∷ [])) (Post v)
+      → ent 𝓤 (⋆ 𝓤 H A (‵ (flft κe qe) ∷ ‵ (flft κm qm) ∷ ‵ (flft κ q) ∷ ‵ (flft κt qt) ∷ ‵ (flft κo qo) ∷ ‵ (flft κz qz) ∷ ‵ Own-e ∷ ‵ Own-n ∷ ‵ Own-c ∷ ‵ Own-t ∷ ‵
+      (finally u8 γo o′) ∷ ‵ (fres γz (u64 .coded .code z′)) ∷ ‵ (u32 .own r (v ∷ [])) ∷ [])) (Post v)
   exits r v o′ z′ e o-as =
-      qed W (‵ (flft κe qe) ∷ ‵ (flft κm qm) ∷ ‵ (flft κ q) ∷ ‵ (flft κt qt) ∷ ‵ (flft κo qo) ∷ ‵ (flft κz qz) ∷ ‵ Own-e ∷ ‵ Own-n ∷ ‵ Own-c ∷ ‵ Own-t ∷ ‵ (finally u8 γo o′) ∷ ‵ (fres γz (u64 .coded .code z′)) ∷ ‵ (u32 .own r (v ∷ [])) ∷ []) ∵
+      qed W (‵ (flft κe qe) ∷ ‵ (flft κm qm) ∷ ‵ (flft κ q) ∷ ‵ (flft κt qt) ∷ ‵ (flft κo qo) ∷ ‵ (flft κz qz) ∷ ‵ Own-e ∷ ‵ Own-n ∷ ‵ Own-c ∷ ‵ Own-t ∷ ‵
+      (finally u8 γo o′) ∷ ‵ (fres γz (u64 .coded .code z′)) ∷ ‵ (u32 .own r (v ∷ [])) ∷ []) ∵
       suffices ! _ (ends-at 𝓤 H A f.ended stayed (f.clauses 𝓤 H A mem run) W bound v r (tt, (tt, (tt, (tt, (o′, (z′, tt)))))) (tt, (tt, (tt, (tt, (o-as, (tt, tt))))))) $ says ! e $
-      nothing ! $ move ! (6 ∷ 0 ∷ []) $ join ! $ move ! (5 ∷ 0 ∷ []) $ join ! $ move ! (4 ∷ 0 ∷ []) $ join ! $ move ! (3 ∷ 0 ∷ []) $ join ! $ move ! (2 ∷ 0 ∷ []) $ join ! $ move ! (1 ∷ 0 ∷ []) $ join ! $ frame ! $
-      nothing ! $ move ! (6 ∷ 0 ∷ []) $ fjoin ! $ move ! (5 ∷ 0 ∷ []) $ fjoin ! $ move ! (4 ∷ 0 ∷ []) $ fjoin ! $ move ! (3 ∷ 0 ∷ []) $ fjoin ! $ move ! (2 ∷ 0 ∷ []) $ fjoin ! $ move ! (1 ∷ 0 ∷ []) $ fjoin ! $ frame ! $ done !
+      nothing ! $ move ! (6 ∷ 0 ∷ []) $ join ! $ move ! (5 ∷ 0 ∷ []) $ join ! $ move ! (4 ∷ 0 ∷ []) $ join ! $ move ! (3 ∷ 0 ∷ []) $ join ! $ move ! (2 ∷ 0 ∷ []) $ join
+      ! $ move ! (1 ∷ 0 ∷ []) $ join ! $ frame ! $
+      nothing ! $ move ! (6 ∷ 0 ∷ []) $ fjoin ! $ move ! (5 ∷ 0 ∷ []) $ fjoin ! $ move ! (4 ∷ 0 ∷ []) $ fjoin ! $ move ! (3 ∷ 0 ∷ []) $ fjoin ! $ move ! (2 ∷ 0 ∷ []) $
+      fjoin ! $ move ! (1 ∷ 0 ∷ []) $ fjoin ! $ frame ! $ done !
 
   -- what goes to `write_cmds`
   abbrev arg-g : Args wri.signature (κe, (κm, (κ, (κt, (κo, tt)))))
@@ -174,7 +188,8 @@ module _ {M : Type 1} (𝓤 : URA M) (H : Heap 𝓤) (A : Atoms 𝓤) (W : Given
   goes-g =
       qed W (pack-g ∷ []) ∵ split ! $ split ! $ split ! $ split ! $ split ! $ split ! $ split ! $ split ! $ split ! $
       nothing ! $ move ! (5 ∷ 0 ∷ []) $ join ! $ move ! (4 ∷ 0 ∷ []) $ join ! $ move ! (3 ∷ 0 ∷ []) $ join ! $ move ! (2 ∷ 0 ∷ []) $ join ! $ move ! (1 ∷ 0 ∷ []) $ join ! $
-      nothing ! $ move ! (6 ∷ 0 ∷ []) $ fjoin ! $ move ! (5 ∷ 0 ∷ []) $ fjoin ! $ move ! (4 ∷ 0 ∷ []) $ fjoin ! $ move ! (3 ∷ 0 ∷ []) $ fjoin ! $ move ! (2 ∷ 0 ∷ []) $ fjoin ! $ move ! (1 ∷ 0 ∷ []) $ join ! $ frame ! $ done !
+      nothing ! $ move ! (6 ∷ 0 ∷ []) $ fjoin ! $ move ! (5 ∷ 0 ∷ []) $ fjoin ! $ move ! (4 ∷ 0 ∷ []) $ fjoin ! $ move ! (3 ∷ 0 ∷ []) $ fjoin ! $ move ! (2 ∷ 0 ∷ []) $
+      fjoin ! $ move ! (1 ∷ 0 ∷ []) $ join ! $ frame ! $ done !
 
   -- what goes to `put_length`: the answer a, at the machine value v, and the place of the length
   abbrev arg-p : WriteAnswer → Args put.signature (κz, tt)
@@ -194,56 +209,104 @@ module _ {M : Type 1} (𝓤 : URA M) (H : Heap 𝓤) (A : Atoms 𝓤) (W : Given
   module _ (C : Calls 𝓤 H) (Λ : Loops 𝓤 H) (fm : FmC 𝓤 H (W .laws) C) (known-g : Triple 𝓤 (C #g) (G 𝓤 H A mem run)) (known-p : Triple 𝓤 (C #p) (P 𝓤 H A mem run)) where
     walk : ent 𝓤 (onEntry 𝓤 H A f.signature (κe, (κm, (κ, (κt, (κo, (κz, tt)))))) (qe, (qm, (q, (qt, (qo, (qz, tt)))))) arg at) (WpFn 𝓤 H C Λ code.function args Post)
     walk =
-        qed W ((‵ (flft κe qe) ⊛ ‵ (flft κm qm) ⊛ ‵ (flft κ q) ⊛ ‵ (flft κt qt) ⊛ ‵ (flft κo qo) ⊛ ‵ (flft κz qz) ⊛ ‵ ftrue) ∷ ‵ (owns (ShrSlice (named 0) κe u8 ∷ ShrSlice (named 1) κm u8 ∷ ShrSlice (named 2) κ T.the-row ∷ ShrSlice (named 3) κt u8 ∷ MutSlice (named 4) κo u8 ∷ MutRef (named 5) κz u64 ∷ []) arg at) ∷ []) ∵ enter ! C Λ code.function args _ $
-        alloc1 ! (λ l₀. alloc1 ! (λ l₁. alloc1 ! (λ l₂. alloc1 ! (λ l₃. alloc1 ! (λ l₄. alloc1 ! (λ l₅. alloc1 ! (λ l₆. alloc1 ! (λ l₇. alloc1 ! (λ l₈. alloc1 ! (λ l₉. alloc1 ! (λ l₁₀. alloc0 ! $ params1 ! $
-        pass1 ! (init ! 18 refl (tt, (tt, (record { fits = rooms .0 .0 }, tt)))) $ pass1 ! (init ! 16 refl (tt, (tt, (record { fits = rooms .1 .0 }, tt)))) $ pass1 ! (init ! 14 refl (tt, (tt, (record { fits = rooms .2 .0 }, tt)))) $ pass1 ! (init ! 12 refl (tt, (tt, (record { fits = rooms .3 .0 }, tt)))) $ pass1 ! (init ! 10 refl (tt, (tt, (record { fits = rooms .4 .0 }, tt)))) $ pass1 ! (init ! 8 refl (tt, tt)) $ pass0 ! $
+        qed W ((‵ (flft κe qe) ⊛ ‵ (flft κm qm) ⊛ ‵ (flft κ q) ⊛ ‵ (flft κt qt) ⊛ ‵ (flft κo qo) ⊛ ‵ (flft κz qz) ⊛ ‵ ftrue) ∷ ‵
+        (owns (ShrSlice (named 0) κe u8 ∷ ShrSlice (named 1) κm u8 ∷ ShrSlice (named 2) κ T.the-row ∷ ShrSlice (named 3) κt u8 ∷ MutSlice (named 4) κo u8 ∷ MutRef
+        (named 5) κz u64 ∷ []) arg at) ∷ []) ∵ enter ! C Λ code.function args _ $
+        alloc1 ! (λ l₀. alloc1 ! (λ l₁. alloc1 ! (λ l₂. alloc1 !
+        (λ l₃. alloc1 ! (λ l₄. alloc1 ! (λ l₅. alloc1 ! (λ l₆. alloc1 ! (λ l₇. alloc1 ! (λ l₈. alloc1 ! (λ l₉. alloc1 ! (λ l₁₀. alloc0 ! $ params1 ! $
+        pass1 ! (init ! 18 refl (tt, (tt, (record { fits = rooms .0 .0 }, tt)))) $ pass1 ! (init ! 16 refl (tt, (tt, (record { fits = rooms .1 .0 }, tt)))) $ pass1 !
+        (init ! 14 refl (tt, (tt, (record { fits = rooms .2 .0 }, tt)))) $ pass1 ! (init ! 12 refl (tt, (tt, (record { fits = rooms .3 .0 }, tt)))) $ pass1 !
+        (init ! 10 refl (tt, (tt, (record { fits = rooms .4 .0 }, tt)))) $ pass1 ! (init ! 8 refl (tt, tt)) $ pass0 ! $
         assigns ! (addr ! (from ! (fld ! refl (hop ! (look-in ! 10 (sub ! 0 refl (whole !))) (stop !))))) (from ! (stop !)) (init ! 4 refl (tt, tt)) $
-        assigns ! (agg ! (and-then ! (load ! (from ! (stop !)) (look ! 4 refl)) (and-then ! (load ! (from ! (fld ! refl (stop !))) (look-in ! 10 (sub ! 1 refl (whole !)))) (no-more !)))) (from ! (stop !)) (init ! 2 refl (tt, (tt, (record { fits = rooms .4 .0 }, tt)))) $
+        assigns ! (agg ! (and-then ! (load ! (from ! (stop !)) (look ! 4 refl))
+        (and-then ! (load ! (from ! (fld ! refl (stop !))) (look-in ! 10 (sub ! 1 refl (whole !)))) (no-more !)))) (from ! (stop !))
+        (init ! 2 refl (tt, (tt, (record { fits = rooms .4 .0 }, tt)))) $
         -- the tokens, and what the parameters own; of a shared slice one copy is kept
         move ! (22 ∷ []) $ split ! $ move ! (1 ∷ []) $ split ! $ move ! (1 ∷ []) $ split ! $ move ! (1 ∷ []) $ split ! $ move ! (1 ∷ []) $ split ! $ move ! (1 ∷ []) $ split ! $
-        move ! (29 ∷ []) $ fsplit ! $ move ! (1 ∷ []) $ fsplit ! $ move ! (1 ∷ []) $ fsplit ! $ move ! (1 ∷ []) $ fsplit ! $ move ! (1 ∷ []) $ fsplit ! $ move ! (1 ∷ []) $ fsplit ! $ move ! (1 ∷ 8 ∷ []) $ drop ! $ drop ! $
+        move ! (29 ∷ []) $ fsplit ! $ move ! (1 ∷ []) $ fsplit ! $ move ! (1 ∷ []) $ fsplit ! $ move ! (1 ∷ []) $ fsplit ! $ move ! (1 ∷ []) $ fsplit ! $ move !
+        (1 ∷ []) $ fsplit ! $ move ! (1 ∷ 8 ∷ []) $ drop ! $ drop ! $
         move ! (5 ∷ []) $ use1 W (‵ Own-e ⊛ ‵ Own-e) (shr-slice-copy 𝓤 H A W (named 0) κe u8 .twice s-e v-e) $ split ! $
         move ! (6 ∷ []) $ use1 W (‵ Own-n ⊛ ‵ Own-n) (shr-slice-copy 𝓤 H A W (named 1) κm u8 .twice s-n v-n) $ split ! $
         move ! (7 ∷ []) $ use1 W (‵ Own-c ⊛ ‵ Own-c) (shr-slice-copy 𝓤 H A W (named 2) κ T.the-row .twice s-c v-c) $ split ! $
         move ! (8 ∷ []) $ use1 W (‵ Own-t ⊛ ‵ Own-t) (shr-slice-copy 𝓤 H A W (named 3) κt u8 .twice s-t v-t) $ split ! $
         -- the write
-        move ! (15 ∷ 14 ∷ 13 ∷ 12 ∷ 11 ∷ 6 ∷ 4 ∷ 2 ∷ 0 ∷ 9 ∷ []) $ join ! $ join ! $ join ! $ join ! $ join ! $ join ! $ join ! $ join ! $ join ! $ use1 W (raw (G 𝓤 H A mem run .pre to-g)) goes-g $
-        calls-at ! fm (G 𝓤 H A mem run) known-g to-g (and-then ! (load ! (from ! (stop !)) (look ! 25 refl)) (and-then ! (load ! (from ! (stop !)) (look ! 23 refl)) (and-then ! (load ! (from ! (stop !)) (look ! 21 refl)) (and-then ! (load ! (from ! (stop !)) (look ! 19 refl)) (and-then ! (load ! (from ! (stop !)) (look ! 9 refl)) (no-more !)))))) (λ v.
-        use1 W (later (some (λ (a : WriteAnswer). ((‵ (flft κe qe) ⊛ ‵ (flft κm qm) ⊛ ‵ (flft κ q) ⊛ ‵ (flft κt qt) ⊛ ‵ (flft κo qo) ⊛ ‵ ftrue) ⊛ ‵ (An.the-row .own a (v ∷ []))) ⊛ raw (ensured 𝓤 H A wri.ended (wri.clauses 𝓤 H A mem run) (κe, (κm, (κ, (κt, (κo, tt))))) arg-g tt a)))) (id⊢ 𝓤 _) $ await ! tt $ picks ! (λ a.
-        split ! $ move ! (1 ∷ []) $ use1 W (some (λ (ws : Ends). ‵ (lasts wri.ended (κe, (κm, (κ, (κt, (κo, tt))))) arg-g ws) ⊛ raw (fact 𝓤 (Writing (ws .1 .1 .1 .1 .0) a)))) (id⊢ 𝓤 _) $ picks ! (λ ws.
-        split ! $ move ! (1 ∷ []) $ heard ! (Writing (ws .1 .1 .1 .1 .0) a) (λ w. fsplit ! $ drop ! $ fsplit ! $ drop ! $ fsplit ! $ drop ! $ fsplit ! $ drop ! $ fsplit ! $ fsplit ! $ move ! (1 ∷ []) $ feqL ! (λ w-o.
+        move ! (15 ∷ 14 ∷ 13 ∷ 12 ∷ 11 ∷ 6 ∷ 4 ∷ 2 ∷ 0 ∷ 9 ∷ []) $ join ! $ join ! $ join ! $ join ! $ join ! $ join ! $ join ! $ join ! $ join ! $ use1 W
+        (raw (G 𝓤 H A mem run .pre to-g)) goes-g $
+        calls-at ! fm (G 𝓤 H A mem run) known-g to-g (and-then ! (load ! (from ! (stop !)) (look ! 25 refl))
+        (and-then ! (load ! (from ! (stop !)) (look ! 23 refl))
+        (and-then ! (load ! (from ! (stop !)) (look ! 21 refl))
+        (and-then ! (load ! (from ! (stop !)) (look ! 19 refl)) (and-then ! (load ! (from ! (stop !)) (look ! 9 refl)) (no-more !)))))) (λ v.
+        use1 W (later (some (λ (a : WriteAnswer). ((‵ (flft κe qe) ⊛ ‵ (flft κm qm) ⊛ ‵ (flft κ q) ⊛ ‵ (flft κt qt) ⊛ ‵ (flft κo qo) ⊛ ‵ ftrue) ⊛ ‵
+        (An.the-row .own a (v ∷ []))) ⊛ raw (ensured 𝓤 H A wri.ended (wri.clauses 𝓤 H A mem run) (κe, (κm, (κ, (κt, (κo, tt))))) arg-g tt a)))) (id⊢ 𝓤 _) $ await !
+        tt $ picks ! (λ a.
+        split ! $ move ! (1 ∷ []) $ use1 W (some (λ (ws : Ends). ‵ (lasts wri.ended (κe, (κm, (κ, (κt, (κo, tt))))) arg-g ws) ⊛ raw
+        (fact 𝓤 (Writing (ws .1 .1 .1 .1 .0) a)))) (id⊢ 𝓤 _) $ picks ! (λ ws.
+        split ! $ move ! (1 ∷ []) $ heard ! (Writing (ws .1 .1 .1 .1 .0) a)
+        (λ w. fsplit ! $ drop ! $ fsplit ! $ drop ! $ fsplit ! $ drop ! $ fsplit ! $ drop ! $ fsplit ! $ fsplit ! $ move ! (1 ∷ []) $ feqL ! (λ w-o.
         move ! (2 ∷ []) $ split ! $ move ! (1 ∷ []) $ peeks ! An.the-row (Is An.the-row) (shows 𝓤 H A An.the-row) a (v ∷ []) (λ a-is.
         land ! (from ! (stop !)) (init ! 16 refl (LL.lawful An.the-type An′.the-laws 𝓤 H A W tt .typed a _ a-is .0)) $
         -- its length
         assigns ! (addr ! (from ! (hop ! (look ! 18 refl) (stop !)))) (from ! (stop !)) (init ! 10 refl (tt, tt)) $
         move ! (9 ∷ 0 ∷ 8 ∷ []) $ join ! $ join ! $ use1 W (raw (P 𝓤 H A mem run .pre (to-p a v))) (goes-p a v) $
         calls-at ! fm (P 𝓤 H A mem run) known-p (to-p a v) (and-then ! (load ! (from ! (stop !)) (look ! 14 refl)) (and-then ! (load ! (from ! (stop !)) (look ! 8 refl)) (no-more !))) (λ u.
-        use1 W (later (some (λ (r : ℕ). ((‵ (flft κz qz) ⊛ ‵ ftrue) ⊛ ‵ (u32 .own r (u ∷ []))) ⊛ raw (ensured 𝓤 H A put.ended (put.clauses 𝓤 H A mem run) (κz, tt) (arg-p a) tt r)))) (id⊢ 𝓤 _) $ await ! tt $ picks ! (λ r.
-        split ! $ move ! (1 ∷ []) $ use1 W (some (λ (zs : Unit {0} × (ℕ × Unit {0})). ‵ (lasts put.ended (κz, tt) (arg-p a) zs) ⊛ raw (fact 𝓤 (Putting a r (zs .1 .0))))) (id⊢ 𝓤 _) $ picks ! (λ zs.
+        use1 W (later (some (λ (r : ℕ). ((‵ (flft κz qz) ⊛ ‵ ftrue) ⊛ ‵ (u32 .own r (u ∷ []))) ⊛ raw
+        (ensured 𝓤 H A put.ended (put.clauses 𝓤 H A mem run) (κz, tt) (arg-p a) tt r)))) (id⊢ 𝓤 _) $ await ! tt $ picks ! (λ r.
+        split ! $ move ! (1 ∷ []) $ use1 W (some (λ (zs : Unit {0} × (ℕ × Unit {0})). ‵ (lasts put.ended (κz, tt) (arg-p a) zs) ⊛ raw (fact 𝓤 (Putting a r (zs .1 .0)))))
+        (id⊢ 𝓤 _) $ picks ! (λ zs.
         split ! $ move ! (1 ∷ []) $ heard ! (Putting a r (zs .1 .0)) (λ p. fsplit ! $ drop ! $ fsplit ! $
         move ! (2 ∷ []) $ split ! $ move ! (1 ∷ []) $ peeks ! u32 (Is u32) (shows 𝓤 H A u32) r (u ∷ []) (λ r-is.
         land ! (from ! (stop !)) (init ! 31 refl (uint-lawful 𝓤 H A W w32 .typed r _ r-is .0)) $
         move ! (4 ∷ []) $ split ! $ move ! (1 ∷ []) $ split ! $ move ! (1 ∷ []) $ split ! $ move ! (1 ∷ []) $ split ! $ move ! (1 ∷ []) $ split ! $ move ! (7 ∷ []) $ split ! $
-        returns ! (look ! 37 refl) $ forget ! 37 refl $ forget ! 35 refl $ forget ! 33 refl $ forget ! 31 refl $ forget ! 29 refl $ forget ! 27 refl $ forget ! 25 refl $ forget ! 23 refl $ forget ! 21 refl $ forget ! 19 refl $ forget ! 17 refl $
-        move ! (37 ∷ 38 ∷ []) $ free1 ! $ move ! (35 ∷ 36 ∷ []) $ free1 ! $ move ! (33 ∷ 34 ∷ []) $ free1 ! $ move ! (31 ∷ 32 ∷ []) $ free1 ! $ move ! (29 ∷ 30 ∷ []) $ free1 ! $ move ! (27 ∷ 28 ∷ []) $ free1 ! $ move ! (25 ∷ 26 ∷ []) $ free1 ! $ move ! (23 ∷ 24 ∷ []) $ free1 ! $ move ! (21 ∷ 22 ∷ []) $ free1 ! $ move ! (19 ∷ 20 ∷ []) $ free1 ! $ move ! (17 ∷ 18 ∷ []) $ free1 ! $ free0 ! $
-        keep ! (7 ∷ 6 ∷ 5 ∷ 4 ∷ 2 ∷ 0 ∷ 16 ∷ 15 ∷ 14 ∷ 13 ∷ 11 ∷ 9 ∷ 8 ∷ []) $ by ! (exits r u (ws .1 .1 .1 .1 .0) (zs .1 .0) (record { answer = a; wrote = w; number = p .0; size = p .1 }) w-o)))))))))))))))))))))))
+        returns ! (look ! 37 refl) $ forget ! 37 refl $ forget ! 35 refl $ forget ! 33 refl $ forget ! 31 refl $ forget ! 29 refl $ forget ! 27 refl $ forget ! 25 refl $
+        forget ! 23 refl $ forget ! 21 refl $ forget ! 19 refl $ forget ! 17 refl $
+        move ! (37 ∷ 38 ∷ []) $ free1 ! $ move ! (35 ∷ 36 ∷ []) $ free1 ! $ move ! (33 ∷ 34 ∷ []) $ free1 ! $ move ! (31 ∷ 32 ∷ []) $ free1 ! $ move ! (29 ∷ 30 ∷ []) $
+        free1 ! $ move ! (27 ∷ 28 ∷ []) $ free1 ! $ move ! (25 ∷ 26 ∷ []) $ free1 ! $ move ! (23 ∷ 24 ∷ []) $ free1 ! $ move ! (21 ∷ 22 ∷ []) $ free1 ! $ move !
+        (19 ∷ 20 ∷ []) $ free1 ! $ move ! (17 ∷ 18 ∷ []) $ free1 ! $ free0 ! $
+        keep ! (7 ∷ 6 ∷ 5 ∷ 4 ∷ 2 ∷ 0 ∷ 16 ∷ 15 ∷ 14 ∷ 13 ∷ 11 ∷ 9 ∷ 8 ∷ []) $ by !
+        (exits r u (ws .1 .1 .1 .1 .0) (zs .1 .0) (record { answer = a; wrote = w; number = p .0; size = p .1 }) w-o)))))))))))))))))))))))
 
 module _ {M : Type 1} (𝓤 : URA M) (H : Heap 𝓤) (A : Atoms 𝓤) (W : Given 𝓤 H A) (mem : Memory → SProp 𝓤) (run : Routine → Fun 𝓤) where
-  f-walks : (C : Calls 𝓤 H) (Λ : Loops 𝓤 H) → FmC 𝓤 H (W .laws) C → Triple 𝓤 (C #g) (G 𝓤 H A mem run) → Triple 𝓤 (C #p) (P 𝓤 H A mem run) → Walks 𝓤 H A f.ended stayed (WpFn 𝓤 H C Λ code.function) (f.clauses 𝓤 H A mem run)
+  f-walks : (C : Calls 𝓤 H) (Λ : Loops 𝓤 H) → FmC 𝓤 H (W .laws) C → Triple 𝓤 (C #g) (G 𝓤 H A mem run) → Triple 𝓤 (C #p) (P 𝓤 H A mem run) → Walks 𝓤 H A f.ended stayed
+      (WpFn 𝓤 H C Λ code.function) (f.clauses 𝓤 H A mem run)
   f-walks C Λ fm known-g known-p =
       walked 𝓤 H A f.ended stayed (f.clauses 𝓤 H A mem run) (WpFn 𝓤 H C Λ code.function) (λ κs. (slice-vals, (slice-vals, (slice-vals, (slice-vals, (slice-vals, (ptr-vals, tt)))))))
-      (λ κs. (shr-slice-tells (named 0) (κs .0) u8, (shr-slice-tells (named 1) (κs .1 .0) u8, (shr-slice-tells (named 2) (κs .1 .1 .0) T.the-row, (shr-slice-tells (named 3) (κs .1 .1 .1 .0) u8, (mut-slice-tells (named 4) (κs .1 .1 .1 .1 .0) u8, (mut-tells (named 5) (κs .1 .1 .1 .1 .1 .0) u64, tt)))))))
+      (λ κs. (
+        shr-slice-tells (named 0) (κs .0) u8,
+        (
+          shr-slice-tells (named 1) (κs .1 .0) u8,
+          (
+            shr-slice-tells (named 2) (κs .1 .1 .0) T.the-row,
+            (shr-slice-tells (named 3) (κs .1 .1 .1 .0) u8, (mut-slice-tells (named 4) (κs .1 .1 .1 .1 .0) u8, (mut-tells (named 5) (κs .1 .1 .1 .1 .1 .0) u64, tt))),
+          ),
+        ),
+      ))
       (λ κs qs bounds a g are. via 𝓤 _ (fst∗ 𝓤 _ (emp 𝓤))
-      (walk 𝓤 H A W mem run (κs .0) (κs .1 .0) (κs .1 .1 .0) (κs .1 .1 .1 .0) (κs .1 .1 .1 .1 .0) (κs .1 .1 .1 .1 .1 .0) (qs .0) (qs .1 .0) (qs .1 .1 .0) (qs .1 .1 .1 .0) (qs .1 .1 .1 .1 .0) (qs .1 .1 .1 .1 .1 .0)
-      (a .0 .ptr .0) (a .0 .ptr .1) (a .0 .name) (a .0 .now) (a .1 .0 .ptr .0) (a .1 .0 .ptr .1) (a .1 .0 .name) (a .1 .0 .now) (a .1 .1 .0 .ptr .0) (a .1 .1 .0 .ptr .1) (a .1 .1 .0 .name) (a .1 .1 .0 .now)
-      (a .1 .1 .1 .0 .ptr .0) (a .1 .1 .1 .0 .ptr .1) (a .1 .1 .1 .0 .name) (a .1 .1 .1 .0 .now) (a .1 .1 .1 .1 .0 .ptr .0) (a .1 .1 .1 .1 .0 .ptr .1) (a .1 .1 .1 .1 .0 .name) (a .1 .1 .1 .1 .0 .now)
+      (walk 𝓤 H A W mem run (κs .0) (κs .1 .0) (κs .1 .1 .0) (κs .1 .1 .1 .0) (κs .1 .1 .1 .1 .0) (κs .1 .1 .1 .1 .1 .0) (qs .0) (qs .1 .0) (qs .1 .1 .0) (qs .1 .1 .1 .0)
+      (qs .1 .1 .1 .1 .0) (qs .1 .1 .1 .1 .1 .0)
+      (a .0 .ptr .0) (a .0 .ptr .1) (a .0 .name) (a .0 .now) (a .1 .0 .ptr .0) (a .1 .0 .ptr .1) (a .1 .0 .name) (a .1 .0 .now) (a .1 .1 .0 .ptr .0) (a .1 .1 .0 .ptr .1)
+      (a .1 .1 .0 .name) (a .1 .1 .0 .now)
+      (a .1 .1 .1 .0 .ptr .0) (a .1 .1 .1 .0 .ptr .1) (a .1 .1 .1 .0 .name) (a .1 .1 .1 .0 .now) (a .1 .1 .1 .1 .0 .ptr .0) (a .1 .1 .1 .1 .0 .ptr .1)
+      (a .1 .1 .1 .1 .0 .name) (a .1 .1 .1 .1 .0 .now)
       (a .1 .1 .1 .1 .1 .0 .ptr .0) (a .1 .1 .1 .1 .1 .0 .ptr .1) (a .1 .1 .1 .1 .1 .0 .name) (a .1 .1 .1 .1 .1 .0 .now)
       (are .0 .0 .1, are .1 .0 .0 .1, are .1 .1 .0 .0 .1, are .1 .1 .1 .0 .0 .1, are .1 .1 .1 .1 .0 .0 .1) C Λ fm known-g known-p))
 
-f-meets : {M : Type 1} (𝓤 : URA M) (H : Heap 𝓤) (A : Atoms 𝓤) → Given 𝓤 H A → (mem : Memory → SProp 𝓤) (run : Routine → Fun 𝓤) (𝓣 : Tables 𝓤 H) → Triple 𝓤 (𝓣 .C #g) (G 𝓤 H A mem run) → Triple 𝓤 (𝓣 .C #p) (P 𝓤 H A mem run)
+f-meets : {M : Type 1} (𝓤 : URA M) (H : Heap 𝓤) (A : Atoms 𝓤) → Given 𝓤 H A → (mem : Memory → SProp 𝓤) (run : Routine → Fun 𝓤) (𝓣 : Tables 𝓤 H) → Triple 𝓤 (𝓣 .C #g)
+    (G 𝓤 H A mem run) → Triple 𝓤 (𝓣 .C #p) (P 𝓤 H A mem run)
     → Meets 𝓤 H A f.signature (WpFn 𝓤 H (𝓣 .C) (𝓣 .Λ) code.function) (f.spec 𝓤 H A mem run)
 f-meets 𝓤 H A W mem run 𝓣 known-g known-p =
-    walk-meets 𝓤 H A f.ended stayed W (goes-none-slice 𝓤 H A W 6 (0 ∷ []) tt (plain (λ _. u8)) yes, (goes-none-slice 𝓤 H A W 6 (1 ∷ []) tt (plain (λ _. u8)) yes, (goes-none-slice 𝓤 H A W 6 (2 ∷ []) tt (plain (λ _. T.the-row)) yes, (goes-none-slice 𝓤 H A W 6 (3 ∷ []) tt (plain (λ _. u8)) yes, (goes-gave-slice 𝓤 H A W 6 4 tt (plain (λ _. u8)), (goes-gave-ref 𝓤 H A W 6 5 tt (plain (λ _. u64)), tt)))))) (f.clauses 𝓤 H A mem run)
+    walk-meets 𝓤 H A f.ended stayed W (
+      goes-none-slice 𝓤 H A W 6 (0 ∷ []) tt (plain (λ _. u8)) yes,
+      (
+        goes-none-slice 𝓤 H A W 6 (1 ∷ []) tt (plain (λ _. u8)) yes,
+        (
+          goes-none-slice 𝓤 H A W 6 (2 ∷ []) tt (plain (λ _. T.the-row)) yes,
+          (
+            goes-none-slice 𝓤 H A W 6 (3 ∷ []) tt (plain (λ _. u8)) yes,
+            (goes-gave-slice 𝓤 H A W 6 4 tt (plain (λ _. u8)), (goes-gave-ref 𝓤 H A W 6 5 tt (plain (λ _. u64)), tt)),
+          ),
+        ),
+      ),
+    ) (f.clauses 𝓤 H A mem run)
     (WpFn 𝓤 H (𝓣 .C) (𝓣 .Λ) code.function) (WpFn-mono 𝓤 H (W .laws) 𝓣 code.function) (f-walks 𝓤 H A W mem run (𝓣 .C) (𝓣 .Λ) (fmOf 𝓤 H (W .laws) 𝓣) known-g known-p)
 
 pub stitch-box-write-cmds-spec : {M : Type 1} → stated.statement M
@@ -252,5 +315,5 @@ stitch-box-write-cmds-spec 𝓤 H 𝓜 𝓖 𝓡 =
     entered 𝓤 H (tripleOf 𝓤 H (𝓖 .A) f.signature (f.spec 𝓤 H (𝓖 .A) (𝓜 .mem) (𝓡 .run)))
     (tables 𝓤 H 𝓜 𝓡 code.env .C) (tables 𝓤 H 𝓜 𝓡 code.env .Λ) #f code.function (code.unfolded 𝓤 H 𝓜 𝓡)
     (f-meets 𝓤 H (𝓖 .A) (givenOf 𝓤 H 𝓜 𝓖) (𝓜 .mem) (𝓡 .run) (tablesOf 𝓤 H 𝓜 (tables 𝓤 H 𝓜 𝓡 code.env))
-    (cited 𝓤 H (G 𝓤 H (𝓖 .A) (𝓜 .mem) (𝓡 .run)) 𝓜 𝓡 code.env #g wri-def.routine code.calls-cmds·write-cmds (wri-thm.met 𝓤 H 𝓜 𝓖 𝓡))
+    (cited 𝓤 H (G 𝓤 H (𝓖 .A) (𝓜 .mem) (𝓡 .run)) 𝓜 𝓡 code.env #g wri-def.routine code.calls-stitch-box-cmds·write-cmds (wri-thm.met 𝓤 H 𝓜 𝓖 𝓡))
     (cited 𝓤 H (P 𝓤 H (𝓖 .A) (𝓜 .mem) (𝓡 .run)) 𝓜 𝓡 code.env #p put-def.routine code.calls-stitch-box-c·put-length (put-thm.met 𝓤 H 𝓜 𝓖 𝓡)))

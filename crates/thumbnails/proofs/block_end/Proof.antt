@@ -19,40 +19,24 @@ Inv-loop xs ys kinds from n i₀ i =
 abbrev μ-loop : tie.MeasureT-loop
 μ-loop xs ys kinds from n i₀ i = n - i
 
-list-len-requires : tie.Need-list-len-requires Inv-loop μ-loop
-list-len-requires c κs = tt
-
-loop-holds : tie.Need-loop-holds Inv-loop μ-loop
-loop-holds c = (c .list-len .ensures, (omega arith, refl))
-
 shared-slice-read-op-of : tie.Need-shared-slice-read-op-of Inv-loop μ-loop
 shared-slice-read-op-of c =
     let a = c .before .before .before .before .before .args in
     omega (arith, length-commands (now (a .xs)) (now (a .ys)) (now (a .kinds)))
 
-op-of-requires : tie.Need-op-of-requires Inv-loop μ-loop
-op-of-requires c κs = tt
-
-is-change-requires : tie.Need-is-change-requires Inv-loop μ-loop
-is-change-requires c κs = tt
-
 returns : tie.Need-returns Inv-loop μ-loop
 returns c =
-    let a = c .before .before .before .before .before .before .before .before .args in
+    let loop = c .before .before .before .before .before .loop in let start = c .before .before .before .before .before .before .before .before in
+    let a = start .args in
     let t = sym (c .before .is-change .ensures ∙ ap isChange (c .before .before .op-of .ensures)) ∙ c .if1 .taken in
-    sym (change-here (now (a .xs)) (now (a .ys)) (now (a .kinds)) (c .before .before .before .before .before .loop .i) (omega arith) t) ∙ c .before .before .before .before .before .loop .inv .1 .1
-
-add-i : tie.Need-add-i Inv-loop μ-loop
-add-i c = omega arith
-
-loop-less : tie.Need-loop-less Inv-loop μ-loop
-loop-less c = omega arith
+    sym (change-here (now (a .xs)) (now (a .ys)) (now (a .kinds)) (loop .i) (omega arith) t) ∙ loop .inv .1 .1
 
 loop-again : tie.Need-loop-again Inv-loop μ-loop
 loop-again c =
-    let a = c .before .before .before .before .before .before .before .before .args in
+    let loop = c .before .before .before .before .before .loop in let start = c .before .before .before .before .before .before .before .before in
+    let a = start .args in
     let t = sym (c .before .is-change .ensures ∙ ap isChange (c .before .before .op-of .ensures)) ∙ c .if1 .left in
-    (c .before .before .before .before .before .loop .inv .0, (omega arith, sym (change-later (now (a .xs)) (now (a .ys)) (now (a .kinds)) (c .before .before .before .before .before .loop .i) (omega arith) t) ∙ c .before .before .before .before .before .loop .inv .1 .1))
+    (loop .inv .0, (omega arith, sym (change-later (now (a .xs)) (now (a .ys)) (now (a .kinds)) (loop .i) (omega arith) t) ∙ loop .inv .1 .1))
 
 returns-2 : tie.Need-returns-2 Inv-loop μ-loop
 returns-2 c =
@@ -63,5 +47,5 @@ pub block-end-spec : {M : Type 1} → statement M
 block-end-spec =
     tie.close
     (tie.spec
-    Inv-loop μ-loop list-len-requires loop-holds shared-slice-read-op-of op-of-requires is-change-requires returns
-    add-i loop-less loop-again returns-2)
+    Inv-loop μ-loop (λ c κs. tt) (λ c. (c .list-len .ensures, (omega arith, refl))) shared-slice-read-op-of (λ c κs. tt) (λ c κs. tt)
+    returns (λ c. omega arith) (λ c. omega arith) loop-again returns-2)

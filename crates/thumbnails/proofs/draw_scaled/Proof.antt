@@ -27,25 +27,13 @@ Inv-loop s xs ys kinds from to icon₀ last₀ i₀ icon last i =
 abbrev μ-loop : tie.MeasureT-loop
 μ-loop s xs ys kinds from to icon₀ last₀ i₀ icon last i = to - i
 
-pec-icon-blank-requires : tie.Need-pec-icon-blank-requires Inv-loop μ-loop
-pec-icon-blank-requires c κs = tt
-
-no-cell-requires : tie.Need-no-cell-requires Inv-loop μ-loop
-no-cell-requires c κs = tt
-
 loop-holds : tie.Need-loop-holds Inv-loop μ-loop
 loop-holds c = (c .before .before .before .pre .0, rw (c .before .pec-icon-blank .ensures) (blank-length, (refl, seen-none _ (c .no-cell .ensures))))
-
-slice-aggregate-mark : tie.Need-slice-aggregate-mark Inv-loop μ-loop
-slice-aggregate-mark c = sym (c .before .before .loop .inv .1 .0)
 
 shared-slice-read-op-of : tie.Need-shared-slice-read-op-of Inv-loop μ-loop
 shared-slice-read-op-of c =
     let a = c .before .before .before .before .before .before .before .args in
     omega (arith, length-commands (now (a .xs)) (now (a .ys)) (now (a .kinds)))
-
-op-of-requires : tie.Need-op-of-requires Inv-loop μ-loop
-op-of-requires c κs = tt
 
 mul-mark : tie.Need-mul-mark Inv-loop μ-loop
 mul-mark c =
@@ -70,28 +58,27 @@ shared-slice-copy-out-mark-2 c =
 mark-requires : tie.Need-mark-requires Inv-loop μ-loop
 mark-requires c κs = (c .before .before .before .before .before .before .loop .inv .1 .0, c .before .before .before .before .before .before .loop .inv .1 .1 .1)
 
-add-i : tie.Need-add-i Inv-loop μ-loop
-add-i c = omega arith
-
-loop-less : tie.Need-loop-less Inv-loop μ-loop
-loop-less c = omega arith
-
 loop-again : tie.Need-loop-again Inv-loop μ-loop
 loop-again c =
-    let a = c .before .before .before .before .before .before .before .before .before .before .before .before .args in
-    let e = next-mark (a .s) (c .before .before .before .before .before .before .before .before .loop .icon) (now (a .xs)) (now (a .ys)) (now (a .kinds)) (c .before .before .before .before .before .before .before .before .loop .i) (a .to) (c .before .before .before .before .before .before .before .loop-test .taken) (c .before .before .before .before .before .before .before .before .before .before .before .before .pre .1)
-    (c .before .before .before .before .op-of .ensures) (ret w32 _ (c .before .before .before .mark-arg .given)) (ret w32 _ (c .before .before .mark-arg2 .given)) (c .before .mark .ensures .0) in
-    (omega arith, (marked-is (a .s) (c .before .before .before .before .before .before .before .before .loop .icon) _ _ _ (c .before .before .before .before .before .before .before .before .loop .inv .1 .0) (c .before .mark .ensures .0), (sym e ∙ c .before .before .before .before .before .before .before .before .loop .inv .1 .1 .0, c .before .mark .ensures .1)))
+    let mark-arg = c .before .before .before .mark-arg in let op-of = c .before .before .before .before .op-of in
+    let loop-test = c .before .before .before .before .before .before .before .loop-test in
+    let loop = c .before .before .before .before .before .before .before .before .loop in
+    let start = c .before .before .before .before .before .before .before .before .before .before .before .before in
+    let a = start .args in
+    let e = next-mark (a .s) (loop .icon) (now (a .xs)) (now (a .ys)) (now (a .kinds)) (loop .i) (a .to) (loop-test .taken) (start .pre .1)
+    (op-of .ensures) (ret w32 _ (mark-arg .given)) (ret w32 _ (c .before .before .mark-arg2 .given)) (c .before .mark .ensures .0) in
+    (omega arith, (marked-is (a .s) (loop .icon) _ _ _ (loop .inv .1 .0) (c .before .mark .ensures .0), (sym e ∙ loop .inv .1 .1 .0, c .before .mark .ensures .1)))
 
 returns : tie.Need-returns Inv-loop μ-loop
 returns c =
-    let a = c .before .before .before .before .before .args in
+    let start = c .before .before .before .before .before in
+    let a = start .args in
     sym (no-mark (a .s) (c .before .loop .icon) (now (a .xs)) (now (a .ys)) (now (a .kinds)) (c .before .loop .i) (a .to) (omega arith)) ∙ c .before .loop .inv .1 .1 .0
 
 pub draw-scaled-spec : {M : Type 1} → statement M
 draw-scaled-spec =
     tie.close
     (tie.spec
-    Inv-loop μ-loop pec-icon-blank-requires no-cell-requires loop-holds slice-aggregate-mark shared-slice-read-op-of
-    op-of-requires mul-mark shared-slice-copy-out-mark mul-mark-2 shared-slice-copy-out-mark-2 mark-requires add-i
-    loop-less loop-again returns)
+    Inv-loop μ-loop (λ c κs. tt) (λ c κs. tt) loop-holds (λ c. sym (c .before .before .loop .inv .1 .0)) shared-slice-read-op-of
+    (λ c κs. tt) mul-mark shared-slice-copy-out-mark mul-mark-2 shared-slice-copy-out-mark-2 mark-requires (λ c. omega arith)
+    (λ c. omega arith) loop-again returns)

@@ -20,9 +20,12 @@ returns-4 c e = false-true e
 
 returns-5 : tie.Need-returns-5
 returns-5 c e =
+    let start = c .before .before .before .before .before .before in
     let a = c .before .is-near .result in
-    let b = c .is-near2 .result in
-    ((rw (toZ-ofZ (c .before .before .before .before .before .before .fits .left)) at (c .before .is-near .ensures (and-left a b e)), omega arith), (rw (toZ-ofZ (c .before .before .before .before .before .before .fits .top)) at (c .is-near2 .ensures (and-right a b e)), omega arith))
+    let b = c .is-near2 .result in (
+      (rw (toZ-ofZ (start .fits .left)) at (c .before .is-near .ensures (and-left a b e)), omega arith),
+      (rw (toZ-ofZ (start .fits .top)) at (c .is-near2 .ensures (and-right a b e)), omega arith),
+    )
 
 pub has-tables-spec : {M : Type 1} → statement M
 has-tables-spec =

@@ -21,12 +21,9 @@ others Trim k = refl
 others ColorChange k = absurd (miss (0 ∷ 1 ∷ 2 ∷ 4 ∷ []) 3 tt k)
 others End k = refl
 
-returns : tie.Need-returns
-returns c = others (c .before .args .op) (c .match .keys2)
-
 returns-2 : tie.Need-returns-2
 unfolding isChange
 returns-2 c = rw (c .enum-told .given .1)
 
 pub is-change-spec : {M : Type 1} → statement M
-is-change-spec = tie.close (tie.spec (λ c. search needs) returns returns-2)
+is-change-spec = tie.close (tie.spec (λ c. search needs) (λ c. others (c .before .args .op) (c .match .keys2)) returns-2)

@@ -21,7 +21,10 @@ unfolding isIn
 returns-2 c = simp (c .before .before .if1 .left, c .if2 .taken)
 
 returns-3 : tie.Need-returns-3
-returns-3 c = by-last (c .before .before .before .before .before .before .before .args .c) _ _ (c .before .before .before .before .before .if1 .left) (c .before .before .before .if2 .left) (c .before .if3 .taken)
+returns-3 c =
+    let if2 = c .before .before .before .if2 in let if1 = c .before .before .before .before .before .if1 in
+    let start = c .before .before .before .before .before .before .before in
+    by-last (start .args .c) _ _ (if1 .left) (if2 .left) (c .before .if3 .taken)
 
 returns-4 : tie.Need-returns-4
 unfolding isIn

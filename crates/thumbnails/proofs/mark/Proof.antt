@@ -25,13 +25,17 @@ others s icon x y ColorChange k = refl
 others s icon x y End k = refl
 
 returns : tie.Need-returns
-returns c = (others (c .before .before .args .s) _ (c .before .before .args .x) (c .before .before .args .y) (c .before .before .args .op) (c .match .keys2), c .before .before .pre .1)
+returns c =
+    let start = c .before .before in
+    (others (start .args .s) _ (start .args .x) (start .args .y) (start .args .op) (c .match .keys2), c .before .before .pre .1)
 
 returns-2 : tie.Need-returns-2
 unfolding marked
 returns-2 c =
-    let f = c .before .before .before .before .before .before .before .fits in
-    (rw (c .before .before .before .before .enum-told .given .1) (rw (toZ-ofZ (f .x), toZ-ofZ (f .y)) at (c .before .before .paint .ensures .0)), c .before .before .paint .ensures .1)
+    let paint = c .before .before .paint in let enum-told = c .before .before .before .before .enum-told in
+    let start = c .before .before .before .before .before .before .before in
+    let f = start .fits in
+    (rw (enum-told .given .1) (rw (toZ-ofZ (f .x), toZ-ofZ (f .y)) at (paint .ensures .0)), paint .ensures .1)
 
 pub mark-spec : {M : Type 1} → statement M
 mark-spec = tie.close (tie.spec (λ c. search needs) returns (λ c κs. search needs) (λ c. search needs) returns-2)

@@ -8,15 +8,25 @@ use Rattle.thumbnails.proofs.paint.Tie as tie
 
 returns : tie.Need-returns
 returns c =
-    let a = c .before .before .before .before .before .args in
-    let f = c .before .before .before .before .before .fits in
-    (paint-seen (a .s) (now (a .icon)) (toZ-ofZ (f .x)) (toZ-ofZ (f .y)) (a .last) (c .before .before .before .scaled .ensures) (c .before .before .scaled2 .ensures) (c .before .is-in .ensures) (c .if1 .taken) (c .before .before .before .before .before .pre .1), c .before .before .before .before .before .pre .1)
+    let scaled = c .before .before .before .scaled in let start = c .before .before .before .before .before in
+    let a = start .args in
+    let f = start .fits in (
+      paint-seen (a .s) (now (a .icon)) (toZ-ofZ (f .x)) (toZ-ofZ (f .y)) (a .last) (scaled .ensures) (c .before .before .scaled2 .ensures) (c .before .is-in .ensures)
+          (c .if1 .taken) (start .pre .1),
+      start .pre .1,
+    )
 
 returns-2 : tie.Need-returns-2
 returns-2 c =
-    let a = c .before .before .before .before .before .before .before .before .before .before .before .before .args in
-    let f = c .before .before .before .before .before .before .before .before .before .before .before .before .fits in
-    paint-joined (a .s) (now (a .icon)) (toZ-ofZ (f .x)) (toZ-ofZ (f .y)) (c .cell-of .result) (c .before .before .before .before .before .before .before .before .before .before .scaled .ensures) (c .before .before .before .before .before .before .before .before .before .scaled2 .ensures) (c .before .before .before .before .before .before .floor .ensures) (c .before .before .before .before .before .floor2 .ensures) (c .before .before .before .set-pixel .ensures) (c .cell-of .ensures)
+    let set-pixel = c .before .before .before .set-pixel in let floor2 = c .before .before .before .before .before .floor2 in
+    let floor = c .before .before .before .before .before .before .floor in
+    let scaled2 = c .before .before .before .before .before .before .before .before .before .scaled2 in
+    let scaled = c .before .before .before .before .before .before .before .before .before .before .scaled in
+    let start = c .before .before .before .before .before .before .before .before .before .before .before .before in
+    let a = start .args in
+    let f = start .fits in
+    paint-joined (a .s) (now (a .icon)) (toZ-ofZ (f .x)) (toZ-ofZ (f .y)) (c .cell-of .result) (scaled .ensures) (scaled2 .ensures) (floor .ensures) (floor2 .ensures)
+    (set-pixel .ensures) (c .cell-of .ensures)
 
 pub paint-spec : {M : Type 1} → statement M
 paint-spec =

@@ -15,49 +15,78 @@ use Rattle.thumbnails.proofs.put_icons.Tie as tie
 
 put-by-tables-requires : tie.Need-put-by-tables-requires
 put-by-tables-requires c κs =
-    let a = c .before .before .before .before .before .before .before .before .before .before .before .before .before .before .before .before .before .before .before .before .before .before .before .before .before .before .args in
+    let a = c .before .before .before .before .before .before .before .before .before .before .before .before .before .before .before .before
+    .before .before .before .before .before .before .before .before .before .before .args in
     let cs = commands (now (a .xs)) (now (a .ys)) (now (a .kinds)) in
     let b = a .b in
-    let told = c .before .before .before .before .before .before .before .before .before .before .before .before .before .before .before .before .before .before .before .before .before .before .struct-told .given in
+    let told = c .before .before .before .before .before .before .before .before .before .before .before .before .before .before .before
+    .before .before .before .before .before .before .before .struct-told .given in
     let x : SFits w32 (b .min .x) = search (needs, told) in
     let y : SFits w32 (b .min .y) = search (needs, told) in
     let x′ : SFits w32 (b .max .x) = search (needs, told) in
     let y′ : SFits w32 (b .max .y) = search (needs, told) in
     let held = c .before .before .before .before .has-tables .ensures (c .before .before .before .if1 .taken) in
-    let frame = framed-as cs (c .before .before .before .before .before .before .before .before .before .before .before .before .before .before .before .before .before .before .before .before .before .before .before .before .before .before .pre .0) (toZ-ofZ x) (toZ-ofZ x′) (toZ-ofZ y) (toZ-ofZ y′) (c .before .before .before .before .before .before .before .before .before .before .places .ensures) (c .before .before .before .before .before .before .before .places2 .ensures) in
-    (held, (frame, icons-room cs (c .before .before .before .before .before .before .before .before .before .before .before .before .before .scale-of2 .result) (a .at) (length (now (a .out))) (c .before .before .before .before .before .before .before .before .before .before .before .before .before .before .before .before .before .before .before .before .before .before .before .before .before .before .pre .1)))
+    let frame = framed-as cs (c .before .before .before .before .before .before .before .before .before .before .before .before .before
+    .before .before .before .before .before .before .before .before .before .before .before .before .before .pre .0) (toZ-ofZ x) (toZ-ofZ x′)
+    (toZ-ofZ y) (toZ-ofZ y′) (c .before .before .before .before .before .before .before .before .before .before .places .ensures) (c
+    .before .before .before .before .before .before .before .places2 .ensures) in (
+      held,
+      (
+        frame,
+        icons-room cs (c .before .before .before .before .before .before .before .before .before .before .before .before
+            .before .scale-of2 .result) (a .at) (length (now (a .out))) (c .before .before .before .before .before .before .before .before .before
+            .before .before .before .before .before .before .before .before .before .before .before .before .before .before .before .before .before .pre .1),
+      ),
+    )
 
 returns : tie.Need-returns
 returns c =
-    let a = c .before .before .before .before .before .before .before .before .before .before .before .before .before .before .before .before .before .before .before .before .before .before .before .before .before .before .before .before .before .args in
+    let a = c .before .before .before .before .before .before .before .before .before .before .before .before .before .before .before .before
+    .before .before .before .before .before .before .before .before .before .before .before .before .before .args in
     let cs = commands (now (a .xs)) (now (a .ys)) (now (a .kinds)) in
     let b = a .b in
-    let told = c .before .before .before .before .before .before .before .before .before .before .before .before .before .before .before .before .before .before .before .before .before .before .before .before .before .struct-told .given in
+    let told = c .before .before .before .before .before .before .before .before .before .before .before .before .before .before .before
+    .before .before .before .before .before .before .before .before .before .before .struct-told .given in
     let x : SFits w32 (b .min .x) = search (needs, told) in
     let y : SFits w32 (b .min .y) = search (needs, told) in
     let x′ : SFits w32 (b .max .x) = search (needs, told) in
     let y′ : SFits w32 (b .max .y) = search (needs, told) in
-    let whole = scale-is cs f4 (c .before .before .before .before .before .before .before .before .before .before .before .before .before .before .before .before .before .before .before .before .before .before .before .before .before .before .before .before .before .pre .0) x y x′ y′ (c .before .before .before .before .before .before .before .before .before .before .before .before .before .before .before .before .before .before .before .before .before .scale-of .ensures) in
-    let part = scale-is cs f5 (c .before .before .before .before .before .before .before .before .before .before .before .before .before .before .before .before .before .before .before .before .before .before .before .before .before .before .before .before .before .pre .0) x y x′ y′ (c .before .before .before .before .before .before .before .before .before .before .before .before .before .before .before .before .scale-of2 .ensures) in
+    let whole = scale-is cs f4 (c .before .before .before .before .before .before .before .before .before .before .before .before .before
+    .before .before .before .before .before .before .before .before .before .before .before .before .before .before .before
+    .before .pre .0) x y x′ y′ (c .before .before .before .before .before .before .before .before .before .before .before .before
+    .before .before .before .before .before .before .before .before .before .scale-of .ensures) in
+    let part = scale-is cs f5 (c .before .before .before .before .before .before .before .before .before .before .before .before .before
+    .before .before .before .before .before .before .before .before .before .before .before .before .before .before .before
+    .before .pre .0) x y x′ y′ (c .before .before .before .before .before .before .before .before .before .before .before .before
+    .before .before .before .before .scale-of2 .ensures) in
     put-as (c .before .before .put-by-tables .ensures) (icons-are cs whole part)
 
 put-plainly-requires : tie.Need-put-plainly-requires
 put-plainly-requires c κs =
-    let a = c .before .before .before .before .before .before .before .before .before .before .before .before .before .before .before .before .before .before .before .before .before .before .before .before .args in
-    icons-room (commands (now (a .xs)) (now (a .ys)) (now (a .kinds))) (c .before .before .before .before .before .before .before .before .before .before .before .scale-of2 .result) (a .at) (length (now (a .out))) (c .before .before .before .before .before .before .before .before .before .before .before .before .before .before .before .before .before .before .before .before .before .before .before .before .pre .1)
+    let at-scale-of2 = c .before .before .before .before .before .before .before .before .before .before .before in
+    let scale-of2 = at-scale-of2 .scale-of2 in
+    let start = at-scale-of2 .before .before .before .before .before .before .before .before .before .before .before .before .before in
+    let a = start .args in
+    icons-room (commands (now (a .xs)) (now (a .ys)) (now (a .kinds))) (scale-of2 .result) (a .at) (length (now (a .out))) (start .pre .1)
 
 returns-2 : tie.Need-returns-2
 returns-2 c =
-    let a = c .before .before .before .before .before .before .before .before .before .before .before .before .before .before .before .before .before .before .before .before .before .before .before .before .before .before .before .args in
+    let a = c .before .before .before .before .before .before .before .before .before .before .before .before .before .before .before .before
+    .before .before .before .before .before .before .before .before .before .before .before .args in
     let cs = commands (now (a .xs)) (now (a .ys)) (now (a .kinds)) in
     let b = a .b in
-    let told = c .before .before .before .before .before .before .before .before .before .before .before .before .before .before .before .before .before .before .before .before .before .before .before .struct-told .given in
+    let told = c .before .before .before .before .before .before .before .before .before .before .before .before .before .before .before
+    .before .before .before .before .before .before .before .before .struct-told .given in
     let x : SFits w32 (b .min .x) = search (needs, told) in
     let y : SFits w32 (b .min .y) = search (needs, told) in
     let x′ : SFits w32 (b .max .x) = search (needs, told) in
     let y′ : SFits w32 (b .max .y) = search (needs, told) in
-    let whole = scale-is cs f4 (c .before .before .before .before .before .before .before .before .before .before .before .before .before .before .before .before .before .before .before .before .before .before .before .before .before .before .before .pre .0) x y x′ y′ (c .before .before .before .before .before .before .before .before .before .before .before .before .before .before .before .before .before .before .before .scale-of .ensures) in
-    let part = scale-is cs f5 (c .before .before .before .before .before .before .before .before .before .before .before .before .before .before .before .before .before .before .before .before .before .before .before .before .before .before .before .pre .0) x y x′ y′ (c .before .before .before .before .before .before .before .before .before .before .before .before .before .before .scale-of2 .ensures) in
+    let whole = scale-is cs f4 (c .before .before .before .before .before .before .before .before .before .before .before .before .before
+    .before .before .before .before .before .before .before .before .before .before .before .before .before .before .pre .0) x y x′ y′ (c
+    .before .before .before .before .before .before .before .before .before .before .before .before .before .before .before .before .before .before .before .scale-of .ensures) in
+    let part = scale-is cs f5 (c .before .before .before .before .before .before .before .before .before .before .before .before .before
+    .before .before .before .before .before .before .before .before .before .before .before .before .before .before .pre .0) x y x′ y′ (c
+    .before .before .before .before .before .before .before .before .before .before .before .before .before .before .scale-of2 .ensures) in
     put-as (c .before .before .put-plainly .ensures) (icons-are cs whole part)
 
 pub put-icons-spec : {M : Type 1} → statement M

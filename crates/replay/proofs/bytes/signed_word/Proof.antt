@@ -7,11 +7,9 @@ use Rattle.replay.proofs.bytes.signed_word.Tie as tie
 cast-result-2 : tie.Need-cast-result-2
 cast-result-2 c = search needs
 
-sub-result : tie.Need-sub-result
-sub-result c = let h = cast-result-2 c in omega ints
-
 pub signed-word-spec : {M : Type 1} → statement M
 signed-word-spec =
     tie.close
     (tie.spec
-    (λ c κs. search needs) (λ c. search needs) (λ c. search needs) cast-result-2 sub-result (λ c. search needs))
+    (λ c κs. search needs) (λ c. search needs) (λ c. search needs) cast-result-2 (λ c. let h = cast-result-2 c in omega ints)
+    (λ c. search needs))

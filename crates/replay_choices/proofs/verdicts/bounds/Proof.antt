@@ -13,22 +13,13 @@ Inv-loop case n xs₀ ys₀ kinds i₀ xs ys i = (i ≤ n) × ((length xs ≡ 64
 abbrev μ-loop : tie.MeasureT-loop
 μ-loop case n xs₀ ys₀ kinds i₀ xs ys i = n - i
 
-slice-aggregate-stream-bounds : tie.Need-slice-aggregate-stream-bounds Inv-loop μ-loop
-slice-aggregate-stream-bounds c = simp length-take (omega arith)
-
-slice-aggregate-stream-bounds-2 : tie.Need-slice-aggregate-stream-bounds-2 Inv-loop μ-loop
-slice-aggregate-stream-bounds-2 c = simp length-take (omega arith)
-
-slice-aggregate-stream-bounds-3 : tie.Need-slice-aggregate-stream-bounds-3 Inv-loop μ-loop
-slice-aggregate-stream-bounds-3 c = simp length-take (omega arith)
-
 pub bounds-spec : {M : Type 1} → statement M
 bounds-spec =
     tie.close
     (tie.spec
-    Inv-loop μ-loop (λ c κs. search needs) (λ c. search needs) (λ c. search needs) (λ c. search needs)
-    (λ c. search needs) (λ c κs. search needs) (λ c. search needs) (λ c. search needs) (λ c. search needs)
-    (λ c. search needs) (λ c κs. search needs) (λ c. search needs) (λ c. search needs) (λ c. search needs)
-    (λ c. search needs) (λ c. search needs) (λ c. search needs) slice-aggregate-stream-bounds (λ c. search needs)
-    slice-aggregate-stream-bounds-2 (λ c. search needs) slice-aggregate-stream-bounds-3 (λ c κs. search needs)
-    (λ c. search needs) (λ c. search needs) (λ c κs. search needs) (λ c. search needs))
+    Inv-loop μ-loop (λ c κs. search needs) (λ c. search needs) (λ c. search needs) (λ c. search needs) (λ c. search needs)
+    (λ c κs. search needs) (λ c. search needs) (λ c. search needs) (λ c. search needs) (λ c. search needs) (λ c κs. search needs)
+    (λ c. search needs) (λ c. search needs) (λ c. search needs) (λ c. search needs) (λ c. search needs) (λ c. search needs)
+    (λ c. simp length-take (omega arith)) (λ c. search needs) (λ c. simp length-take (omega arith)) (λ c. search needs)
+    (λ c. simp length-take (omega arith)) (λ c κs. search needs) (λ c. search needs) (λ c. search needs) (λ c κs. search needs)
+    (λ c. search needs))

@@ -5,15 +5,11 @@ use borrow.Author.Needs.{needs}
 use Rattle.replay_reads.proofs.verdicts.blocks_same.Statement.{statement}
 use Rattle.replay_reads.proofs.verdicts.blocks_same.Tie as tie
 
-slice-aggregate-walked : tie.Need-slice-aggregate-walked
-slice-aggregate-walked c = simp length-take (omega arith)
-
 pub blocks-same-spec : {M : Type 1} → statement M
 blocks-same-spec =
     tie.close
     (tie.spec
-    (λ c. search needs) (λ c. search needs) (λ c. search needs) (λ c. search needs) (λ c κs. search needs)
-    (λ c. search needs) (λ c. search needs) (λ c κs. search needs) slice-aggregate-walked (λ c κs. search needs)
-    (λ c. search needs) (λ c. search needs) (λ c. search needs) (λ c. search needs) (λ c. search needs)
-    (λ c. search needs) (λ c. search needs) (λ c. search needs) (λ c. search needs) (λ c. search needs)
-    (λ c. search needs) (λ c. search needs))
+    (λ c. search needs) (λ c. search needs) (λ c. search needs) (λ c. search needs) (λ c κs. search needs) (λ c. search needs)
+    (λ c. search needs) (λ c κs. search needs) (λ c. simp length-take (omega arith)) (λ c κs. search needs) (λ c. search needs)
+    (λ c. search needs) (λ c. search needs) (λ c. search needs) (λ c. search needs) (λ c. search needs) (λ c. search needs)
+    (λ c. search needs) (λ c. search needs) (λ c. search needs) (λ c. search needs) (λ c. search needs))

@@ -5,8 +5,5 @@ use borrow.Author.Needs.{needs}
 use Rattle.runs.proofs.buffer.flush.Statement.{statement}
 use Rattle.runs.proofs.buffer.flush.Tie as tie
 
-slice-aggregate-write-all : tie.Need-slice-aggregate-write-all
-slice-aggregate-write-all c = simp length-take (omega arith)
-
 pub flush-spec : {M : Type 1} → statement M
-flush-spec = tie.close (tie.spec slice-aggregate-write-all (λ c κs. search needs) (λ c. search needs))
+flush-spec = tie.close (tie.spec (λ c. simp length-take (omega arith)) (λ c κs. search needs) (λ c. search needs))

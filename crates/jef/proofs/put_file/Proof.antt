@@ -1,0 +1,33 @@
+-- The header, and then the records.
+use native.Mathlib.Omega.{arith}
+use denote.Ref.{now}
+use Rattle.rules.specs.Jef.{jefFile}
+use Rattle.rules.specs.Lists.{commands, threadsOf}
+use Rattle.laws.specs.Buffers.{put-put, put-length}
+use Rattle.jef.proofs.Files.{length-file}
+use borrow.Author.Needs.{needs}
+use Rattle.jef.proofs.put_file.Statement.{statement}
+use Rattle.jef.proofs.put_file.Tie as tie
+
+put-header-requires : tie.Need-put-header-requires
+put-header-requires c κs =
+    let start = c .before .before .before .before in
+    let a = start .args in
+    let cs = commands (now (a .xs)) (now (a .ys)) (now (a .kinds)) in
+    let ts = threadsOf (now (a .threads)) in
+    ((start .pre .0 .0, start .pre .0 .1 .0), (start .pre .1 .0, omega (arith, length-file cs ts, start .pre .1 .1)))
+
+put-stream-requires : tie.Need-put-stream-requires
+put-stream-requires c κs =
+    let put-header = c .before .before .before .put-header in let start = c .before .before .before .before .before .before .before .before in
+    let a = start .args in
+    let cs = commands (now (a .xs)) (now (a .ys)) (now (a .kinds)) in
+    let ts = threadsOf (now (a .threads)) in
+    (start .pre .0 .1 .1, omega (arith, length-file cs ts, put-header .ensures .ends, put-length (put-header .ensures), start .pre .1 .1))
+
+returns : tie.Need-returns
+unfolding jefFile
+returns c = put-put (c .before .before .before .before .before .before .put-header .ensures) (c .before .before .put-stream .ensures)
+
+pub put-file-spec : {M : Type 1} → statement M
+put-file-spec = tie.close (tie.spec put-header-requires put-stream-requires (λ c. search needs) returns)

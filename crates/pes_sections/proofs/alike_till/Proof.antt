@@ -1,0 +1,34 @@
+-- The kinds before k are alike.
+use Prim.Native.Nat.{_+_, _-_, _≤_}
+use native.Mathlib.Omega.{arith}
+use borrow.Author.Tests.{not-false}
+use denote.Ref.{now}
+use Rattle.pes_sections.specs.Alike.{Alike}
+use Rattle.pes_sections.proofs.Alike.{alike-none, alike-join}
+use Rattle.pes_sections.proofs.alike_till.Statement.{statement}
+use Rattle.pes_sections.proofs.alike_till.Tie as tie
+
+abbrev Inv-loop : tie.InvT-loop
+Inv-loop kinds kind i n k₀ k = (i ≤ k) × ((k ≤ n) × Alike kinds kind i k)
+
+abbrev μ-loop : tie.MeasureT-loop
+μ-loop kinds kind i n k₀ k = n - k
+
+loop-holds : tie.Need-loop-holds Inv-loop μ-loop
+loop-holds c =
+    let s = c .before in
+    (omega arith, (s .pre .0, alike-none (now (s .args .kinds)) (s .args .kind) (s .args .i)))
+
+loop-again : tie.Need-loop-again Inv-loop μ-loop
+loop-again c =
+    let a = c .before .before .before .before .before .args in
+    let loop = c .before .before .before .loop in
+    let eight = c .before .are-alike .ensures (not-false _ (c .if1 .left)) in
+    (omega arith, (omega arith, alike-join (now (a .kinds)) (a .kind) (a .i) (loop .k) (loop .k + 8) (loop .inv .1 .1) eight))
+
+pub alike-till-spec : {M : Type 1} → statement M
+alike-till-spec =
+    tie.close
+    (tie.spec
+    Inv-loop μ-loop loop-holds (λ c. omega arith) (λ c κs. omega arith) (λ c. c .before .before .before .loop .inv) (λ c. omega arith)
+    (λ c. omega arith) loop-again (λ c. c .before .loop .inv))

@@ -1,0 +1,255 @@
+// Reading: what has been read so far, and the colours of blocks.
+// The builder is one small record that is lent by mutable reference; here is what each record of a file makes of it.
+// A port of src/formats/read.rs of zigzag, changed.
+pub mod colors;
+
+use rules::Counts;
+use rules::Record;
+ghost use mathlib.Core.Path.{_≡_};
+ghost use Prim.Native.Nat.{_+_, _^_, _<_, _≤_};
+ghost use lib.IntN.{natAbs, _+ℤ_};
+ghost use Rattle.read_records.specs.Fields.{lenOf, dxOf, dyOf};
+ghost use Rattle.read_builder.specs.Builders.{Small, Counted, origin, stitched, jumped, changed, followed, finished, some, opening, sewn, placeAfter};
+ghost use Rattle.rules.specs.Promises.{was, left};
+
+// The place; the points of the open run, 0 where none is open; the number of the block and the runs begun in it; and all points,
+// ended runs and listed blocks so far. No two neighbours are both left alone by a stitch, or by a jump: the compiler would keep
+// them as one number, and the loops would be slower.
+pub struct Builder {
+    pub x: i32,
+    pub block: u32,
+    pub y: i32,
+    pub blocks: u32,
+    pub run: u32,
+    pub begun: u32,
+    pub runs: u32,
+    pub points: u32,
+}
+
+pub fn new() -> Builder
+    ensures { λ r. ⌜ r ≡ origin ⌝ }
+{
+    Builder {
+        x: 0,
+        y: 0,
+        run: 0,
+        block: 0,
+        begun: 0,
+        points: 0,
+        runs: 0,
+        blocks: 0,
+    }
+}
+
+// Neither place nor step is large enough to pass an i32.
+pub fn sum(a: i32, b: i32) -> i32
+    requires { ⌜ natAbs a + natAbs b < 2 ^ 31 ⌝ }
+    ensures { λ r. ⌜ r ≡ a +ℤ b ⌝ }
+{
+    a + b
+}
+
+// 1 where the next stitch opens a run: the open one has n points, 0 where there is none.
+pub fn opens(n: u32) -> u32
+    ensures { λ r. ⌜ r ≡ opening n ⌝ }
+{
+    if n == 0 {
+        return 1;
+    }
+    0
+}
+
+// The builder after n stitches, the last to (x, y). The first opens a run, of two points, if none is open.
+pub fn after_stitches(b: Builder, n: u32, x: i32, y: i32) -> Builder
+    requires { ⌜ Small b ⌝ }
+    requires { ⌜ n < 2 ^ 31 ⌝ }
+    ensures { λ r. ⌜ r ≡ sewn n b x y ⌝ }
+{
+    if n == 0 {
+        return b;
+    }
+    let o = opens(b.run);
+    Builder {
+        x,
+        y,
+        run: b.run + n + o,
+        block: b.block,
+        begun: b.begun + o,
+        points: b.points + n + o,
+        runs: b.runs,
+        blocks: b.blocks,
+    }
+}
+
+// The same of one stitch.
+pub fn after_stitch(b: Builder, x: i32, y: i32) -> Builder
+    requires { ⌜ Small b ⌝ }
+    ensures { λ r. ⌜ r ≡ stitched b x y ⌝ }
+{
+    after_stitches(b, 1, x, y)
+}
+
+// 1 for a run that is open, or a block with runs.
+fn one_if(n: u32) -> u32
+    ensures { λ r. ⌜ r ≡ some n ⌝ }
+{
+    if n == 0 {
+        return 0;
+    }
+    1
+}
+
+// The builder after a jump to (x, y), which ends the run.
+pub fn after_jump(b: Builder, x: i32, y: i32) -> Builder
+    requires { ⌜ Small b ⌝ }
+    ensures { λ r. ⌜ r ≡ jumped b x y ⌝ }
+{
+    Builder {
+        x,
+        y,
+        run: 0,
+        block: b.block,
+        begun: b.begun,
+        points: b.points,
+        runs: b.runs + one_if(b.run),
+        blocks: b.blocks,
+    }
+}
+
+// The builder after a colour change, which ends run and block and then moves to (x, y).
+pub fn after_change(b: Builder, x: i32, y: i32) -> Builder
+    requires { ⌜ Small b ⌝ }
+    ensures { λ r. ⌜ r ≡ changed b x y ⌝ }
+{
+    Builder {
+        x,
+        y,
+        run: 0,
+        block: b.block + 1,
+        begun: 0,
+        points: b.points,
+        runs: b.runs + one_if(b.run),
+        blocks: b.blocks + one_if(b.begun),
+    }
+}
+
+// The same three on a builder that is lent.
+impl Builder {
+    pub fn stitch(&mut self, x: i32, y: i32)
+        requires { ⌜ Small (now self) ⌝ }
+        ensures { λ _. ⌜ left self ≡ stitched (was self) x y ⌝ }
+    {
+        *self = after_stitch(*self, x, y);
+    }
+
+    pub fn jump(&mut self, x: i32, y: i32)
+        requires { ⌜ Small (now self) ⌝ }
+        ensures { λ _. ⌜ left self ≡ jumped (was self) x y ⌝ }
+    {
+        *self = after_jump(*self, x, y);
+    }
+
+    pub fn color_change(&mut self, x: i32, y: i32)
+        requires { ⌜ Small (now self) ⌝ }
+        ensures { λ _. ⌜ left self ≡ changed (was self) x y ⌝ }
+    {
+        *self = after_change(*self, x, y);
+    }
+}
+
+// The same three for the passes, which keep the builder by value: each lends it to the method and gives it back.
+pub fn stitch(b: Builder, x: i32, y: i32) -> Builder
+    requires { ⌜ Small b ⌝ }
+    ensures { λ r. ⌜ r ≡ stitched b x y ⌝ }
+{
+    let mut c = b;
+    c.stitch(x, y);
+    c
+}
+
+pub fn jump(b: Builder, x: i32, y: i32) -> Builder
+    requires { ⌜ Small b ⌝ }
+    ensures { λ r. ⌜ r ≡ jumped b x y ⌝ }
+{
+    let mut c = b;
+    c.jump(x, y);
+    c
+}
+
+pub fn color_change(b: Builder, x: i32, y: i32) -> Builder
+    requires { ⌜ Small b ⌝ }
+    ensures { λ r. ⌜ r ≡ changed b x y ⌝ }
+{
+    let mut c = b;
+    c.color_change(x, y);
+    c
+}
+
+// What a record makes of the builder, where it reaches (x, y). The end leaves it as it is.
+pub fn follow(b: Builder, r: Record, x: i32, y: i32) -> Builder
+    requires { ⌜ Small b ⌝ }
+    ensures { λ q. ⌜ q ≡ followed b r x y ⌝ }
+{
+    match r {
+        Record::StitchBy { .. } => stitch(b, x, y),
+        Record::JumpBy { .. } => jump(b, x, y),
+        Record::ChangeBy { .. } => color_change(b, x, y),
+        Record::Finish => b,
+    }
+}
+
+// Nothing more comes: the open run and its block end.
+pub fn finish(b: Builder) -> Builder
+    requires { ⌜ Small b ⌝ }
+    ensures { λ r. ⌜ r ≡ finished b ⌝ }
+{
+    color_change(b, b.x, b.y)
+}
+
+// What a finished builder has counted.
+pub fn counts(b: Builder) -> Counts
+    requires { ⌜ b .blocks ≤ b .runs ⌝ }
+    ensures { λ r. ⌜ Counted b r ⌝ }
+{
+    Counts {
+        points: b.points,
+        runs: b.runs,
+        blocks: b.blocks,
+        cuts: b.runs - b.blocks,
+    }
+}
+
+// Where the next record stands; at the end of the n bytes once the reading has ended.
+pub fn place_after(r: Record, at: usize, n: usize) -> usize
+    requires { ⌜ at + lenOf r < 2 ^ 64 ⌝ }
+    ensures { λ q. ⌜ q ≡ placeAfter r at n ⌝ }
+{
+    match r {
+        Record::StitchBy { len, .. } => at + len,
+        Record::JumpBy { len, .. } => at + len,
+        Record::ChangeBy { len, .. } => at + len,
+        Record::Finish => n,
+    }
+}
+
+pub fn dx_of(r: Record) -> i32
+    ensures { λ z. ⌜ z ≡ dxOf r ⌝ }
+{
+    match r {
+        Record::StitchBy { dx, .. } => dx,
+        Record::JumpBy { dx, .. } => dx,
+        Record::ChangeBy { dx, .. } => dx,
+        Record::Finish => 0,
+    }
+}
+
+pub fn dy_of(r: Record) -> i32
+    ensures { λ z. ⌜ z ≡ dyOf r ⌝ }
+{
+    match r {
+        Record::StitchBy { dy, .. } => dy,
+        Record::JumpBy { dy, .. } => dy,
+        Record::ChangeBy { dy, .. } => dy,
+        Record::Finish => 0,
+    }
+}

@@ -1,0 +1,15 @@
+-- A colour is put, or there is none. Assumes nothing.
+use mathlib.Core.Path.{refl}
+use borrow.Author.Needs.{needs}
+use Rattle.read_header.proofs.put_color.Statement.{statement}
+use Rattle.read_header.proofs.put_color.Tie as tie
+
+returns-2 : tie.Need-returns-2
+returns-2 c = rw (c .before .before .s .given .1, c .number-of .ensures) (refl, refl)
+
+pub put-color-spec : {M : Type 1} → statement M
+put-color-spec =
+    tie.close
+    (tie.spec
+    (λ c. search needs) (λ c. search needs) (λ c. search needs) (λ c κs. search needs) (λ c. search needs)
+    (λ c. search needs) (λ c. search needs) (λ c. search needs) returns-2)

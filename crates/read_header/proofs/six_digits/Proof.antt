@@ -1,0 +1,28 @@
+-- Three pairs. Assumes nothing.
+use borrow.Author.Tests.{eq-eqb, ne-eqb}
+use Rattle.rules.specs.Dst.{sixDigits}
+use borrow.Author.Needs.{needs}
+use Rattle.read_header.proofs.six_digits.Statement.{statement}
+use Rattle.read_header.proofs.six_digits.Tie as tie
+
+returns : tie.Need-returns
+unfolding sixDigits
+returns c = rw (ne-eqb _ _ (c .if1 .taken))
+
+returns-2 : tie.Need-returns-2
+unfolding sixDigits
+returns-2 c =
+    rw (
+      eq-eqb _ _ (c .before .before .before .before .before .before .before .before .before .before .if1 .left),
+      ← c .before .before .before .before .before .before .before .hex-pair .ensures,
+      ← c .before .before .before .before .hex-pair2 .ensures,
+      ← c .before .hex-pair3 .ensures,
+    ) (c .hex-color .ensures)
+
+pub six-digits-spec : {M : Type 1} → statement M
+six-digits-spec =
+    tie.close
+    (tie.spec
+    returns (λ c. search needs) (λ c. search needs) (λ c κs. search needs) (λ c. search needs) (λ c. search needs)
+    (λ c κs. search needs) (λ c. search needs) (λ c. search needs) (λ c κs. search needs) (λ c κs. search needs)
+    returns-2)

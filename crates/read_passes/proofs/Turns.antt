@@ -1,0 +1,130 @@
+-- One record: the answers to come are what it adds and what comes after it; counts and places stay small. Assumes nothing.
+use Prim.Native.Nat.{ℕ, suc, _+_, _*_, _≤_}
+use mathlib.Core.Path.{_≡_, refl, sym, _∙_}
+use mathlib.Core.List.{List, [], _∷_, _++_, append-assoc}
+use native.Mathlib.Numerals.{add-one}
+use native.Mathlib.Omega.{arith}
+use lib.IntN.{ℤ, natAbs, _+ℤ_}
+use lib.ListN.{length, length-append}
+use Rattle.rules.specs.Answers.{places, runs, blocks, startOf, pointsAfter, begunAfter}
+use Rattle.rules.specs.Limits.{blockCells}
+use Rattle.rules.specs.Records.{Event, stitch, jump, change, recordThen}
+use Rattle.rules.specs.declared.Record.{Record}
+use Rattle.rules.specs.declared.Record.the-variants.{StitchBy, JumpBy, ChangeBy, Finish}
+use Rattle.read_records.proofs.Formats.{Fair}
+use Rattle.read_records.specs.Fields.{lenOf, dxOf, dyOf}
+use Rattle.read_builder.proofs.Parts.{run-cells, point-cells, block-cells, sizes}
+use Rattle.read_builder.specs.Builders.{some, followed, placeAfter, placesBy, runsBy, blocksBy}
+use Rattle.read_builder.specs.declared.Builder.{Builder}
+
+-- the answers still to come
+abbrev pub placesLeft : Builder → List Event → List ℤ
+placesLeft b es = places (b .x) (b .y) (b .run) es
+
+abbrev pub runsLeft : Builder → List Event → List ℕ
+runsLeft b es = runs (b .run) es
+
+abbrev pub blocksLeft : (ℕ → ℕ) → Builder → List Event → List ℕ
+blocksLeft c b es = blocks c (b .block) (b .begun) (b .run) es
+
+-- the events behind a record, where `go n` are those from n bytes on
+abbrev pub eventsAfter : Record → (ℕ → List Event) → List Event
+eventsAfter (StitchBy dx dy n) go = go n
+eventsAfter (JumpBy dx dy n) go = go n
+eventsAfter (ChangeBy dx dy n) go = go n
+eventsAfter Finish go = []
+
+-- the builder that has taken the record's step
+abbrev pub moved : Builder → Record → Builder
+moved b r = followed b r (b .x +ℤ dxOf r) (b .y +ℤ dyOf r)
+
+pub places-next : (b : Builder) (r : Record) (go : ℕ → List Event) → placesLeft b (recordThen r go) ≡ placesBy b r ++ placesLeft (moved b r) (eventsAfter r go)
+unfolding places recordThen
+places-next b (StitchBy dx dy n) go = rw append-assoc
+places-next b (JumpBy dx dy n) go = refl
+places-next b (ChangeBy dx dy n) go = refl
+places-next b Finish go = refl
+
+module _ (b : Builder) where
+  -- runs and blocks do not ask for the place
+  pub runs-next : (r : Record) (x y : ℤ) (go : ℕ → List Event) → runsLeft b (recordThen r go) ≡ runsBy b r ++ runsLeft (followed b r x y) (eventsAfter r go)
+  unfolding runs recordThen
+  runs-next (StitchBy dx dy n) x y go = refl
+  runs-next (JumpBy dx dy n) x y go = refl
+  runs-next (ChangeBy dx dy n) x y go = refl
+  runs-next Finish x y go = refl
+
+  pub blocks-next : (c : ℕ → ℕ) (r : Record) (x y : ℤ) (go : ℕ → List Event)
+      → blocksLeft c b (recordThen r go) ≡ blocksBy c b r ++ blocksLeft c (followed b r x y) (eventsAfter r go)
+  unfolding blocks recordThen
+  blocks-next c (StitchBy dx dy n) x y go = refl
+  blocks-next c (JumpBy dx dy n) x y go = refl
+  blocks-next c (ChangeBy dx dy n) x y go = rw add-one
+  blocks-next c Finish x y go = refl
+
+  -- ---- the cells of what a record adds are what the builder counts
+
+  pub points-by : (r : Record) (x y : ℤ) → 2 * followed b r x y .points ≡ 2 * b .points + length (placesBy b r)
+  points-by (StitchBy dx dy n) x y = simp length-append (omega (arith, point-cells (b .run) (b .x) (b .y)))
+  points-by (JumpBy dx dy n) x y = omega arith
+  points-by (ChangeBy dx dy n) x y = omega arith
+  points-by Finish x y = omega arith
+
+  pub runs-by : (r : Record) (x y : ℤ) → followed b r x y .runs ≡ b .runs + length (runsBy b r)
+  runs-by (StitchBy dx dy n) x y = omega arith
+  runs-by (JumpBy dx dy n) x y = rw (run-cells (b .run))
+  runs-by (ChangeBy dx dy n) x y = rw (run-cells (b .run))
+  runs-by Finish x y = omega arith
+
+  pub blocks-by : (c : ℕ → ℕ) (r : Record) (x y : ℤ) → blockCells * followed b r x y .blocks ≡ blockCells * b .blocks + length (blocksBy c b r)
+  blocks-by c (StitchBy dx dy n) x y = omega arith
+  blocks-by c (JumpBy dx dy n) x y = omega arith
+  blocks-by c (ChangeBy dx dy n) x y = omega (arith, block-cells c (b .block) (b .begun))
+  blocks-by c Finish x y = omega arith
+
+-- ---- how many places come does not hang on where they are, nor how many cells of blocks on the colours
+
+start-cells : (n : ℕ) (x y x′ y′ : ℤ) → length (startOf n x y) ≡ length (startOf n x′ y′)
+start-cells n x y x′ y′ = omega (arith, point-cells n x y, point-cells n x′ y′)
+
+places-anywhere : (x y x′ y′ : ℤ) (n : ℕ) (es : List Event) → length (places x y n es) ≡ length (places x′ y′ n es)
+unfolding places
+places-anywhere x y x′ y′ n [] = refl
+places-anywhere x y x′ y′ n (stitch dx dy ∷ es) =
+    simp length-append (omega (arith, start-cells n x y x′ y′, places-anywhere (x +ℤ dx) (y +ℤ dy) (x′ +ℤ dx) (y′ +ℤ dy) (pointsAfter n) es))
+places-anywhere x y x′ y′ n (jump dx dy ∷ es) = places-anywhere (x +ℤ dx) (y +ℤ dy) (x′ +ℤ dx) (y′ +ℤ dy) 0 es
+places-anywhere x y x′ y′ n (change dx dy ∷ es) = places-anywhere (x +ℤ dx) (y +ℤ dy) (x′ +ℤ dx) (y′ +ℤ dy) 0 es
+
+pub left-anywhere : (b : Builder) (r : Record) (x y x′ y′ : ℤ) (es : List Event) → length (placesLeft (followed b r x y) es) ≡ length (placesLeft (followed b r x′ y′) es)
+left-anywhere b (StitchBy dx dy n) x y x′ y′ es = places-anywhere x y x′ y′ (pointsAfter (b .run)) es
+left-anywhere b (JumpBy dx dy n) x y x′ y′ es = places-anywhere x y x′ y′ 0 es
+left-anywhere b (ChangeBy dx dy n) x y x′ y′ es = places-anywhere x y x′ y′ 0 es
+left-anywhere b Finish x y x′ y′ es = refl
+
+pub any-colours : (c c′ : ℕ → ℕ) (k m n : ℕ) (es : List Event) → length (blocks c k m n es) ≡ length (blocks c′ k m n es)
+unfolding blocks
+any-colours c c′ k m n [] = block-cells c k m ∙ sym (block-cells c′ k m)
+any-colours c c′ k m n (stitch dx dy ∷ es) = any-colours c c′ k (begunAfter n m) (pointsAfter n) es
+any-colours c c′ k m n (jump dx dy ∷ es) = any-colours c c′ k m 0 es
+any-colours c c′ k m n (change dx dy ∷ es) =
+    simp length-append (omega (arith, block-cells c k m, block-cells c′ k m, any-colours c c′ (suc k) 0 0 es))
+
+-- ---- small by the bytes read; and no more blocks have runs than there are runs
+
+pub record Bounded (b : Builder) (at : ℕ) : Type 0 where
+  pub x : natAbs (b .x) ≤ 1000 * at
+  pub y : natAbs (b .y) ≤ 1000 * at
+  pub run : b .run ≤ at
+  pub block : b .block ≤ at
+  pub begun : b .begun ≤ at
+  pub points : b .points ≤ at
+  pub runs : b .runs ≤ at
+  pub blocks : b .blocks ≤ at
+  pub fewer : b .blocks + some (b .begun) ≤ b .runs + some (b .run)
+
+pub bounded-next : (b : Builder) (at N : ℕ) (r : Record) (x y : ℤ) → Bounded b at → Fair r → at + lenOf r ≤ N
+    → natAbs x ≤ 1000 * (at + lenOf r) → natAbs y ≤ 1000 * (at + lenOf r) → Bounded (followed b r x y) (placeAfter r at N)
+bounded-next b at N (StitchBy dx dy n) x y w f h hx hy = omega (arith, w, sizes (b .run) (b .begun))
+bounded-next b at N (JumpBy dx dy n) x y w f h hx hy = omega (arith, w, sizes (b .run) (b .begun))
+bounded-next b at N (ChangeBy dx dy n) x y w f h hx hy = omega (arith, w, sizes (b .run) (b .begun), sizes (b .begun) 0)
+bounded-next b at N Finish x y w f h hx hy = omega (arith, w)

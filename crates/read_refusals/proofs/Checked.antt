@@ -1,0 +1,114 @@
+-- The checks of a file, in the order that the code has. Assumes nothing.
+use Prim.Native.Nat.{ℕ, _+_, _≤_, _<_}
+use mathlib.Core.Path.{_≡_, sym}
+use mathlib.Core.Bool.{true, false}
+use mathlib.Core.List.{List, [], _∷_}
+use native.Mathlib.Omega.{arith}
+use borrow.Author.Tests.{lt-ltb, le-ltb, ltb-true, ltb-false, leb-true, leb-false}
+use lib.Dec.{leb, ltb}
+use lib.IntN.{pos, natAbs}
+use lib.Signed.{ltZ}
+use lib.ListN.{length}
+use Rattle.rules.specs.Refusals.{verdict}
+use Rattle.rules.specs.Pec.{noCount}
+use Rattle.rules.specs.Pes.{partAt}
+use Rattle.rules.specs.Files.{fileRefusals}
+use Rattle.rules.specs.Text.{begins, wordAt}
+use Rattle.rules.specs.declared.Format.{Format}
+use Rattle.rules.specs.declared.Format.the-variants.{Pes, Pec, Dst, Exp, Jef}
+use Rattle.rules.specs.declared.Refusal.the-variants.{FileTooLong, NotPes, FileTooShort, StartBelowZero}
+use Rattle.laws.specs.Tests.{by-test}
+use Rattle.read_refusals.specs.Openings.{byteOf, partStart, started, frontOf, pecFront, pesFront, dstFront, jefFront}
+use Rattle.read_refusals.specs.declared.Byte.the-variants.{Value, Missing}
+use Rattle.read_refusals.specs.declared.Opening.the-variants.{At, Not}
+
+never : {b : ℕ} → Value b ≡ Missing → ⊥
+never e = let z : _≡_ {A = ℕ} 0 1 = cc in omega arith
+
+-- a byte that is there, and one that is missing
+module _ (start k : ℕ) (s : List ℕ) where
+  pub byte-there : {b : ℕ} → byteOf start k s ≡ Value b → start + k < length s
+  byte-there e = by-test (ltb (start + k) (length s)) (ltb-true _ _) (λ t. absurd (never (sym (rw t at e))))
+
+  pub byte-missing : byteOf start k s ≡ Missing → length s ≤ start + k
+  byte-missing e = by-test (ltb (start + k) (length s)) (λ t. absurd (never (rw t at e))) (ltb-false _ _)
+
+-- ---- the checks that a format has
+
+module _ (start : ℕ) (s : List ℕ) where
+  pub counted : start + 48 < length s → At start ≡ pecFront start s
+  unfolding pecFront
+  counted h = rw (lt-ltb (start + 48) (length s) h)
+
+  pub uncounted : length s ≤ start + 48 → Not FileTooShort ≡ pecFront start s
+  unfolding pecFront
+  uncounted h = rw (le-ltb (start + 48) (length s) h)
+
+  -- the check of the count byte, as the rules say it
+  count-byte : pecFront start s ≡ started (verdict ((FileTooShort, leb (length s) (start + 48)) ∷ [])) start
+  unfolding pecFront verdict
+  count-byte = by-test (leb (length s) (start + 48))
+      (λ e. rw (e, le-ltb (start + 48) (length s) (leb-true _ _ e)))
+      (λ e. rw (e, lt-ltb (start + 48) (length s) (leb-false _ _ e)))
+
+module _ (s : List ℕ) where
+  pub pes-unlike : begins (0x23 ∷ 0x50 ∷ 0x45 ∷ 0x53 ∷ []) s ≡ false → Not NotPes ≡ pesFront s
+  unfolding pesFront verdict
+  pes-unlike b = rw b
+
+  module _ (b : begins (0x23 ∷ 0x50 ∷ 0x45 ∷ 0x53 ∷ []) s ≡ true) where
+    pub pes-short : length s < 12 → Not FileTooShort ≡ pesFront s
+    unfolding pesFront verdict
+    pes-short h = rw (b, lt-ltb (length s) 12 h)
+
+    module _ (h : 12 ≤ length s) where
+      pub pes-below : ltZ (wordAt 8 s) (pos 0) ≡ true → Not StartBelowZero ≡ pesFront s
+      unfolding pesFront verdict
+      pes-below e = rw (b, le-ltb (length s) 12 h, e)
+
+      pub pes-start : ltZ (wordAt 8 s) (pos 0) ≡ false → pecFront (natAbs (wordAt 8 s)) s ≡ pesFront s
+      unfolding pesFront verdict noCount partStart partAt
+      pes-start e = rw (b, le-ltb (length s) 12 h, e) (count-byte (natAbs (wordAt 8 s)) s)
+
+  pub dst-short : length s < 512 → Not FileTooShort ≡ dstFront s
+  unfolding dstFront verdict
+  dst-short h = rw (lt-ltb (length s) 512 h)
+
+  pub dst-whole : 512 ≤ length s → At 0 ≡ dstFront s
+  unfolding dstFront verdict partStart
+  dst-whole h = rw (le-ltb (length s) 512 h)
+
+  pub jef-short : length s < 4 → Not FileTooShort ≡ jefFront s
+  unfolding jefFront verdict
+  jef-short h = rw (lt-ltb (length s) 4 h)
+
+  pub jef-whole : 4 ≤ length s → At 0 ≡ jefFront s
+  unfolding jefFront verdict partStart
+  jef-whole h = rw (le-ltb (length s) 4 h)
+
+  -- ---- every format: first that the file is not too long
+
+  pub too-long : (f : Format) → 2097152 < length s → Not FileTooLong ≡ frontOf f s
+  unfolding frontOf fileRefusals verdict
+  too-long f h = rw (lt-ltb 2097152 (length s) h)
+
+  module _ (h : length s ≤ 2097152) where
+    pub of-pes : pesFront s ≡ frontOf Pes s
+    unfolding frontOf pesFront fileRefusals verdict
+    of-pes = rw (le-ltb 2097152 (length s) h)
+
+    pub of-pec : pecFront 8 s ≡ frontOf Pec s
+    unfolding frontOf fileRefusals verdict noCount partStart
+    of-pec = rw (le-ltb 2097152 (length s) h) (count-byte 8 s)
+
+    pub of-dst : dstFront s ≡ frontOf Dst s
+    unfolding frontOf dstFront fileRefusals verdict
+    of-dst = rw (le-ltb 2097152 (length s) h)
+
+    pub of-exp : At 0 ≡ frontOf Exp s
+    unfolding frontOf fileRefusals verdict partStart
+    of-exp = rw (le-ltb 2097152 (length s) h)
+
+    pub of-jef : jefFront s ≡ frontOf Jef s
+    unfolding frontOf jefFront fileRefusals verdict
+    of-jef = rw (le-ltb 2097152 (length s) h)

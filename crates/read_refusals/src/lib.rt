@@ -1,0 +1,190 @@
+// What a file's first bytes tell: whether the file is refused, where its own part begins, and its label.
+// A port of src/formats/read.rs of zigzag, changed.
+use formats::extension_of;
+use read_header::Span;
+use read_header::Word;
+use read_header::dst_label_at;
+use read_header::i32le;
+use read_header::part;
+use read_header::pec_label_at;
+use rules::DST_HEADER;
+use rules::Extension;
+use rules::Format;
+use rules::LONGEST_FILE;
+use rules::Refusal;
+ghost use mathlib.Core.Path.{_≡_};
+ghost use mathlib.Core.List.{[], _∷_};
+ghost use Rattle.read_header.specs.Spans.{Holds};
+ghost use Rattle.rules.specs.Files.{fileVerdict, labelOf, labelTold};
+ghost use Rattle.rules.specs.Text.{begins};
+ghost use Rattle.rules.specs.Refusals.{extensionOf};
+ghost use Rattle.rules.specs.Promises.{was};
+ghost use Rattle.rules.specs.declared.Extension.the-variants.{Of};
+ghost use Rattle.read_refusals.specs.Labels.{labelAnswered};
+ghost use Rattle.read_refusals.specs.Openings.{byteOf, partStart, pecFront, pesFront, dstFront, jefFront, frontOf};
+
+// A byte, or a file that ends before it.
+pub enum Byte {
+    Value(u8),
+    Missing,
+}
+
+// Where the file's own part begins, or why the file is refused.
+pub enum Opening {
+    At(usize),
+    Not(Refusal),
+}
+
+// Where the label stands, or why the file is refused.
+pub enum LabelAnswer {
+    Found(Span),
+    Not(Refusal),
+}
+
+// The byte k places after start.
+fn byte_of(file: &[u8], start: usize, k: usize) -> Byte
+    ensures { λ r. ⌜ r ≡ byteOf start k (was file) ⌝ }
+{
+    if file.len() <= start {
+        return Byte::Missing;
+    }
+    if file.len() - start <= k {
+        return Byte::Missing;
+    }
+    Byte::Value(file[start + k])
+}
+
+// `#PES` at the front.
+fn begins_pes(file: &[u8]) -> bool
+    ensures { λ r. ⌜ r ≡ begins (0x23 ∷ 0x50 ∷ 0x45 ∷ 0x53 ∷ []) (was file) ⌝ }
+{
+    if file.len() < 4 {
+        return false;
+    }
+    if file[0] != 0x23 {
+        return false;
+    }
+    if file[1] != 0x50 {
+        return false;
+    }
+    if file[2] != 0x45 {
+        return false;
+    }
+    file[3] == 0x53
+}
+
+// A PEC part must have its count byte.
+fn pec_front(file: &[u8], start: usize) -> Opening
+    ensures { λ r. ⌜ r ≡ pecFront start (was file) ⌝ }
+{
+    let count = byte_of(file, start, 48);
+    let Byte::Value(_) = count else {
+        return Opening::Not(Refusal::FileTooShort);
+    };
+    Opening::At(start)
+}
+
+// A PES says where its PEC part begins.
+fn pes_front(file: &[u8]) -> Opening
+    ensures { λ r. ⌜ r ≡ pesFront (was file) ⌝ }
+{
+    if !begins_pes(file) {
+        return Opening::Not(Refusal::NotPes);
+    }
+    let word = i32le(file, 8);
+    let Word::Number(start) = word else {
+        return Opening::Not(Refusal::FileTooShort);
+    };
+    if start < 0 {
+        return Opening::Not(Refusal::StartBelowZero);
+    }
+    pec_front(file, start as usize)
+}
+
+fn dst_front(file: &[u8]) -> Opening
+    ensures { λ r. ⌜ r ≡ dstFront (was file) ⌝ }
+{
+    if file.len() < DST_HEADER {
+        return Opening::Not(Refusal::FileTooShort);
+    }
+    Opening::At(0)
+}
+
+fn jef_front(file: &[u8]) -> Opening
+    ensures { λ r. ⌜ r ≡ jefFront (was file) ⌝ }
+{
+    let word = i32le(file, 0);
+    let Word::Number(_) = word else {
+        return Opening::Not(Refusal::FileTooShort);
+    };
+    Opening::At(0)
+}
+
+// Refusals 2 to 5, and where the part begins if there is none of them.
+pub fn front(f: Format, file: &[u8]) -> Opening
+    ensures { λ r. ⌜ r ≡ frontOf f (was file) ⌝ }
+{
+    if LONGEST_FILE < file.len() {
+        return Opening::Not(Refusal::FileTooLong);
+    }
+    match f {
+        Format::Pes => pes_front(file),
+        Format::Pec => pec_front(file, 8),
+        Format::Dst => dst_front(file),
+        Format::Exp => Opening::At(0),
+        Format::Jef => jef_front(file),
+    }
+}
+
+// Where the label of a file stands whose part begins at start.
+fn label_of_at(f: Format, file: &[u8], start: usize) -> Span
+    requires { ⌜ start ≡ partStart f (now file) ⌝ }
+    ensures { λ r. ⌜ Holds r (was file) (labelOf f (was file)) ⌝ }
+{
+    match f {
+        Format::Pes | Format::Pec => pec_label_at(file, start),
+        Format::Dst => dst_label_at(file),
+        Format::Exp | Format::Jef => Span { start: 0, len: 0 },
+    }
+}
+
+// Where the label of a file of format f stands, or why the file is refused.
+fn label_answer_in(f: Format, file: &[u8]) -> LabelAnswer
+    ensures { λ r. ⌜ labelAnswered (fileVerdict (Of f) (was file)) (was file) (labelTold (Of f) (was file)) r ⌝ }
+{
+    let found = front(f, file);
+    match found {
+        Opening::At(start) => LabelAnswer::Found(label_of_at(f, file, start)),
+        Opening::Not(why) => LabelAnswer::Not(why),
+    }
+}
+
+// Where the label of a file stands, or why the file is refused: every refusal of reading but 11.
+pub fn label_answer(ext: &[u8], file: &[u8]) -> LabelAnswer
+    ensures { λ r. ⌜ labelAnswered (fileVerdict (extensionOf (was ext)) (was file)) (was file) (labelTold (extensionOf (was ext)) (was file)) r ⌝ }
+{
+    let named = extension_of(ext);
+    let Extension::Of(f) = named else {
+        return LabelAnswer::Not(Refusal::UnknownExtension);
+    };
+    label_answer_in(f, file)
+}
+
+// Where the label of a file stands: nothing, at its start, under a refusal.
+pub fn label_at(ext: &[u8], file: &[u8]) -> Span
+    ensures { λ r. ⌜ Holds r (was file) (labelTold (extensionOf (was ext)) (was file)) ⌝ }
+{
+    let answer = label_answer(ext, file);
+    let LabelAnswer::Found(p) = answer else {
+        return Span { start: 0, len: 0 };
+    };
+    p
+}
+
+// The label of a file, as a part of it: empty for EXP and JEF, and under every refusal of reading but 11.
+pub fn label<'a>(ext: &[u8], file: &'a [u8]) -> &'a [u8]
+    ensures { λ r. ⌜ now r ≡ labelTold (extensionOf (was ext)) (was file) ⌝ }
+{
+    let p = label_at(ext, file);
+    part(file, p.start, p.len)
+}

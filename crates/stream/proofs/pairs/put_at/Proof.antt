@@ -1,0 +1,63 @@
+-- The kind and the place are read, and the step is told.
+use borrow.Author.Needs.{needs}
+use Prim.Native.Nat.{_<_, min}
+use native.Mathlib.Omega.{arith}
+use denote.Ref.{now}
+use lib.IntN.{pos}
+use lib.ListN.{length, getD}
+use mir.Syntax.{w32}
+use mir.Facts.{toZ-ofZ}
+use Rattle.laws.specs.Ints.{ret, fit}
+use Rattle.laws.specs.Listing.{length-commands}
+use Rattle.stream_cmd.specs.Cmds.{pairStream}
+use Rattle.stream.proofs.Stream.{most-at, stepped}
+use Rattle.stream.proofs.pairs.put_at.Statement.{statement}
+use Rattle.stream.proofs.pairs.put_at.Tie as tie
+
+-- the command is within the three slices
+few : (s : tie.Start) → (let a = s .args in a .i < min (length (now (a .xs))) (min (length (now (a .ys))) (length (now (a .kinds)))))
+few s = let a = s .args in omega (arith, length-commands (now (a .xs)) (now (a .ys)) (now (a .kinds)), s .pre .0 .0)
+
+step-requires : tie.Need-step-requires
+step-requires c κs =
+    let s = c .before .before .before .before .before in
+    let a = s .args in
+    rw (ret w32 (getD (now (a .xs)) (a .i) (pos 0)) (c .step-arg .given), toZ-ofZ (s .fits .x)) (omega (arith, s .pre .0 .1 .x, most-at (pairStream (a .jef))))
+
+step-requires-2 : tie.Need-step-requires-2
+step-requires-2 c κs =
+    let s = c .before .before .before .before .before .before .before in
+    let a = s .args in
+    rw (ret w32 (getD (now (a .ys)) (a .i) (pos 0)) (c .step-arg2 .given), toZ-ofZ (s .fits .y)) (omega (arith, s .pre .0 .1 .y, most-at (pairStream (a .jef))))
+
+pair-cmd-requires : tie.Need-pair-cmd-requires
+pair-cmd-requires c κs =
+    let step′ = c .before .before .before .step in let step-arg = c .before .before .before .before .step-arg in
+    let op-of = c .before .before .before .before .before .op-of in
+    let s = c .before .before .before .before .before .before .before .before .before in
+    let a = s .args in
+    let dx = stepped (step′ .ok) (step′ .ensures) (fit w32 (getD (now (a .xs)) (a .i) (pos 0)) (step-arg .given)) (s .fits .x) in
+    let dy = stepped (c .before .step2 .ok) (c .before .step2 .ensures) (fit w32 (getD (now (a .ys)) (a .i) (pos 0)) (c .before .before .step-arg2 .given)) (s .fits .y) in
+    rw (dx, dy, op-of .ensures) (s .pre .0 .1, s .pre .1)
+
+returns : tie.Need-returns
+returns c =
+    let step2 = c .before .before .before .before .step2 in let step-arg2 = c .before .before .before .before .before .step-arg2 in
+    let step′ = c .before .before .before .before .before .before .step in
+    let step-arg = c .before .before .before .before .before .before .before .step-arg in
+    let op-of = c .before .before .before .before .before .before .before .before .op-of in
+    let s = c .before .before .before .before .before .before .before .before .before .before .before .before in
+    let a = s .args in
+    let dx = stepped (step′ .ok) (step′ .ensures) (fit w32 (getD (now (a .xs)) (a .i) (pos 0)) (step-arg .given)) (s .fits .x) in
+    let dy = stepped (step2 .ok) (step2 .ensures) (fit w32 (getD (now (a .ys)) (a .i) (pos 0)) (step-arg2 .given)) (s .fits .y) in
+    rw (dx, dy, op-of .ensures) at (c .before .before .pair-cmd .ensures)
+
+pub put-at-spec : {M : Type 1} → statement M
+put-at-spec =
+    tie.close
+    (tie.spec
+    (λ c. omega (arith, few (c .before .before .before))) (λ c κs. search needs)
+    (λ c. omega (arith, few (c .before .before .before .before))) (λ c. omega (arith, few (c .before .before .before .before)))
+    step-requires (λ c. omega (arith, few (c .before .before .before .before .before .before)))
+    (λ c. omega (arith, few (c .before .before .before .before .before .before))) step-requires-2 pair-cmd-requires (λ c. search needs)
+    returns)
