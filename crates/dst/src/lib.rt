@@ -32,9 +32,8 @@ ghost use lib.Signed.{nonNeg};
 ghost use Rattle.rules.specs.Vocabulary.{pick, count, padded, right};
 ghost use Rattle.rules.specs.Lists.{commands, opOf, isTrim, dstName};
 ghost use Rattle.rules.specs.Dst.{line, signedRight, dstText, dstFile};
-ghost use Rattle.rules.specs.Files.{writeVerdict, writeAnswer, filled, fileOf};
 ghost use Rattle.rules.specs.Refusals.{stepTooLong};
-ghost use Rattle.rules.specs.Promises.{was, left};
+ghost use Rattle.rules.specs.Promises.{was, left, Wrote};
 ghost use Rattle.rules.specs.declared.Extension.the-variants.{Of};
 ghost use Rattle.rules.specs.declared.Format.the-variants.{Dst};
 ghost use Rattle.laws.specs.Buffers.{Puts};
@@ -207,8 +206,7 @@ pub fn dst_from_stream(
     threads: &[u8],
     out: &mut [u8],
 ) -> WriteAnswer
-    ensures { λ r. ⌜ r ≡ writeAnswer (writeVerdict (Of Dst) (was name) (was xs) (was ys) (was kinds) (was threads) (length (was out))) (length (fileOf Dst (was name) (commands (was xs) (was ys) (was kinds)) (was threads))) ⌝ }
-    ensures { λ _. ⌜ left out ≡ filled (writeVerdict (Of Dst) (was name) (was xs) (was ys) (was kinds) (was threads) (length (was out))) (fileOf Dst (was name) (commands (was xs) (was ys) (was kinds)) (was threads)) (was out) ⌝ }
+    ensures { λ w. ⌜ Wrote (Of Dst) (was name) (was xs) (was ys) (was kinds) (was threads) (was out) (left out) w ⌝ }
 {
     let checked = check_list(Format::Dst, xs, ys, kinds, threads);
     match checked {

@@ -8,10 +8,12 @@ use borrow.Author.Tests.{lt-ltb, le-ltb, ltb-false, eqb-true}
 use lib.Dec.{ltb, eqb}
 use lib.IntN.{ℤ}
 use lib.ListN.{length}
-use Rattle.rules.specs.Files.{fileOf, writeVerdict, writeAnswer, filled}
+use Rattle.rules.specs.Files.{fileOf, fileTold, writeVerdict, writeAnswer, filled}
 use Rattle.rules.specs.Lists.{commands}
+use Rattle.rules.specs.Promises.{Wrote}
 use Rattle.rules.specs.Refusals.{badList, placeOutside, changes, tooMany, moved, stepTooLong, verdict, listRefusals, listVerdict}
 use Rattle.rules.specs.Vocabulary.{count}
+use Rattle.rules.specs.declared.Cmd.{Cmd}
 use Rattle.rules.specs.declared.Extension.the-variants.{Of}
 use Rattle.rules.specs.declared.Format.{Format}
 use Rattle.rules.specs.declared.Refusal.{Refusal}
@@ -24,18 +26,22 @@ use Rattle.laws.specs.Tests.{or-no-left, or-no-right}
 use Rattle.laws.specs.Verdicts.{first-false, verdict-on, verdict-stop}
 use Rattle.emit.specs.Answered.{roomVerdict, Answered}
 
--- ---- room
+-- ---- room: the file is n cells long
 
-pub written : {file d d′ : List ℕ} {r : ℕ} → length file ≤ length d → Put d d′ 0 r file → Answered file d d′ (Written r)
-unfolding roomVerdict verdict writeAnswer filled
-written {file} {d} h p =
-    let v = le-ltb (length d) (length file) h in
-    let q = put-front h p in
-    record { told = rw (v, q .0); stored = rw v (q .1) }
+pub fits : {n room long : ℕ} → n ≤ room → long ≡ n → long ≤ room
+fits h e = rw e h
 
-pub unwritten : {file d : List ℕ} → length d < length file → Answered file d d (Unwritten BufferTooShort)
-unfolding roomVerdict verdict writeAnswer filled
-unwritten {file} {d} h = let v = lt-ltb (length d) (length file) h in record { told = rw v; stored = rw v }
+module _ {file d : List ℕ} {n : ℕ} where
+  pub written : {d′ : List ℕ} {r : ℕ} → n ≤ length d → length file ≡ n → Put d d′ 0 r file → Answered file d d′ (Written r)
+  unfolding roomVerdict verdict writeAnswer filled
+  written h e p =
+      let v = le-ltb (length d) (length file) (fits h e) in
+      let q = put-front (fits h e) p in
+      record { told = rw (v, q .0); stored = rw v (q .1) }
+
+  pub unwritten : length d < n → length file ≡ n → Answered file d d (Unwritten BufferTooShort)
+  unfolding roomVerdict verdict writeAnswer filled
+  unwritten h e = let v = lt-ltb (length d) (length file) (rw e h) in record { told = rw v; stored = rw v }
 
 -- ---- the checks
 
@@ -43,22 +49,22 @@ no-not : (b : Bool) → not b ≡ false → b ≡ true
 no-not true e = refl
 no-not false e = sym e
 
-module _ (f : Format) (name : List ℕ) (xs ys : List ℤ) (kinds threads : List ℕ) where
-  pub refused-write : (s : Refusal) → listVerdict f xs ys kinds threads ≡ Refused s → (n : ℕ) → writeVerdict (Of f) name xs ys kinds threads n ≡ Refused s
-  unfolding listVerdict writeVerdict
-  refused-write s e n = verdict-stop (listRefusals f xs ys kinds threads) _ s e
+module _ {f : Format} {name : List ℕ} {xs ys : List ℤ} {kinds threads d : List ℕ} where
+  -- the list is refused
+  pub not-wrote : {s : Refusal} → listVerdict f xs ys kinds threads ≡ Refused s → Wrote (Of f) name xs ys kinds threads d d (Unwritten s)
+  unfolding listVerdict writeVerdict writeAnswer filled
+  not-wrote {s} e =
+      let v : writeVerdict (Of f) name xs ys kinds threads (length d) ≡ Refused s = verdict-stop (listRefusals f xs ys kinds threads) _ s e in
+      record { answered = rw v; stored = rw v }
 
-  module _ (e : listVerdict f xs ys kinds threads ≡ Accepted) where
-    accepted-write : (n : ℕ) → writeVerdict (Of f) name xs ys kinds threads n ≡ roomVerdict (fileOf f name (commands xs ys kinds) threads) n
-    unfolding listVerdict writeVerdict roomVerdict
-    accepted-write n = verdict-on (listRefusals f xs ys kinds threads) _ e
-
-    module _ {d d′ : List ℕ} {r : WriteAnswer} (a : Answered (fileOf f name (commands xs ys kinds) threads) d d′ r) where
-      pub write-told : r ≡ writeAnswer (writeVerdict (Of f) name xs ys kinds threads (length d)) (length (fileOf f name (commands xs ys kinds) threads))
-      write-told = rw (accepted-write (length d)) (a .told)
-
-      pub write-stored : d′ ≡ filled (writeVerdict (Of f) name xs ys kinds threads (length d)) (fileOf f name (commands xs ys kinds) threads) d
-      write-stored = rw (accepted-write (length d)) (a .stored)
+  -- the list is accepted, and its room decides
+  pub wrote : {d′ : List ℕ} {r : WriteAnswer} → listVerdict f xs ys kinds threads ≡ Accepted
+      → Answered (fileOf f name (commands xs ys kinds) threads) d d′ r → Wrote (Of f) name xs ys kinds threads d d′ r
+  unfolding listVerdict writeVerdict roomVerdict fileTold
+  wrote e a =
+      let file = fileOf f name (commands xs ys kinds) threads in
+      let v : writeVerdict (Of f) name xs ys kinds threads (length d) ≡ roomVerdict file (length d) = verdict-on (listRefusals f xs ys kinds threads) _ e in
+      record { answered = rw v (a .told); stored = rw v (a .stored) }
 
 -- ---- what an accepted list is known for
 
@@ -68,25 +74,25 @@ pub record Fine (f : Format) (xs ys : List ℤ) (kinds threads : List ℕ) : Typ
   pub places : placeOutside (commands xs ys kinds) ≡ false
   pub steps : stepTooLong f (commands xs ys kinds) ≡ false
 
-module _ (f : Format) (xs ys : List ℤ) (kinds threads : List ℕ) (e : listVerdict f xs ys kinds threads ≡ Accepted) where
-  few-threads : tooMany (commands xs ys kinds) threads ≡ false → length threads ≤ 765
-  unfolding tooMany
-  few-threads t =
-      let u = or-no-right (ltb 254 (count changes (commands xs ys kinds))) _ t in
-      let a = ltb-false 255 (length threads / 3) (or-no-left _ _ u) in
-      let b = eqb-true (length threads % 3) 0 (no-not _ (or-no-right (ltb 255 (length threads / 3)) _ u)) in
-      omega arith
+few-threads : (cs : List Cmd) (threads : List ℕ) → tooMany cs threads ≡ false → length threads ≤ 765
+unfolding tooMany
+few-threads cs threads t =
+    let u = or-no-right (ltb 254 (count changes cs)) _ t in
+    let a = ltb-false 255 (length threads / 3) (or-no-left _ _ u) in
+    let b = eqb-true (length threads % 3) 0 (no-not _ (or-no-right (ltb 255 (length threads / 3)) _ u)) in
+    omega arith
 
-  few-commands : badList xs ys kinds ≡ false → length kinds ≤ 65535
-  unfolding badList
-  few-commands t = ltb-false 65535 (length kinds) (or-no-left _ _ (or-no-right (eqb (length kinds) 0) _ t))
+few-commands : (xs ys : List ℤ) (kinds : List ℕ) → badList xs ys kinds ≡ false → length kinds ≤ 65535
+unfolding badList
+few-commands xs ys kinds t = ltb-false 65535 (length kinds) (or-no-left _ _ (or-no-right (eqb (length kinds) 0) _ t))
 
-  pub fine : Fine f xs ys kinds threads
-  unfolding listVerdict listRefusals verdict
-  fine =
-      let a = first-false (badList xs ys kinds) _ _ e in
-      let b = first-false (placeOutside (commands xs ys kinds)) _ _ (a .1) in
-      let c = first-false (tooMany (commands xs ys kinds) threads) _ _ (b .1) in
-      let d = first-false (moved (commands xs ys kinds)) _ _ (c .1) in
-      let s = first-false (stepTooLong f (commands xs ys kinds)) _ _ (d .1) in
-      record { long = few-commands (a .0); few = few-threads (c .0); places = b .0; steps = s .0 }
+pub fine : {f : Format} {xs ys : List ℤ} {kinds threads : List ℕ} → listVerdict f xs ys kinds threads ≡ Accepted → Fine f xs ys kinds threads
+unfolding listVerdict listRefusals verdict
+fine {f} {xs} {ys} {kinds} {threads} e =
+    let cs = commands xs ys kinds in
+    let a = first-false (badList xs ys kinds) _ _ e in
+    let b = first-false (placeOutside cs) _ _ (a .1) in
+    let c = first-false (tooMany cs threads) _ _ (b .1) in
+    let d = first-false (moved cs) _ _ (c .1) in
+    let s = first-false (stepTooLong f cs) _ _ (d .1) in
+    record { long = few-commands xs ys kinds (a .0); few = few-threads cs threads (c .0); places = b .0; steps = s .0 }

@@ -15,9 +15,8 @@ ghost use Prim.Native.Nat.{_≤_};
 ghost use lib.ListN.{length};
 ghost use Rattle.rules.specs.Lists.{commands};
 ghost use Rattle.rules.specs.Exp.{expFile};
-ghost use Rattle.rules.specs.Files.{writeVerdict, writeAnswer, filled, fileOf};
 ghost use Rattle.rules.specs.Refusals.{stepTooLong};
-ghost use Rattle.rules.specs.Promises.{was, left};
+ghost use Rattle.rules.specs.Promises.{was, left, Wrote};
 ghost use Rattle.rules.specs.declared.Extension.the-variants.{Of};
 ghost use Rattle.rules.specs.declared.Format.the-variants.{Exp};
 ghost use Rattle.emit.specs.Answered.{Answered};
@@ -42,8 +41,7 @@ pub fn write_exp(
     threads: &[u8],
     out: &mut [u8],
 ) -> WriteAnswer
-    ensures { λ r. ⌜ r ≡ writeAnswer (writeVerdict (Of Exp) [] (was xs) (was ys) (was kinds) (was threads) (length (was out))) (length (fileOf Exp [] (commands (was xs) (was ys) (was kinds)) (was threads))) ⌝ }
-    ensures { λ _. ⌜ left out ≡ filled (writeVerdict (Of Exp) [] (was xs) (was ys) (was kinds) (was threads) (length (was out))) (fileOf Exp [] (commands (was xs) (was ys) (was kinds)) (was threads)) (was out) ⌝ }
+    ensures { λ w. ⌜ Wrote (Of Exp) [] (was xs) (was ys) (was kinds) (was threads) (was out) (left out) w ⌝ }
 {
     let checked = check_list(Format::Exp, xs, ys, kinds, threads);
     match checked {

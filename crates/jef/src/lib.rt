@@ -30,9 +30,8 @@ ghost use lib.ListN.{length, replicate};
 ghost use Rattle.rules.specs.Choices.{jefEntries};
 ghost use Rattle.rules.specs.Jef.{pointsIn, pointCount, jefHoop, halfUp, edges, jefTable, words, jefHeader, jefFile};
 ghost use Rattle.rules.specs.Lists.{commands, threadsOf};
-ghost use Rattle.rules.specs.Files.{writeVerdict, writeAnswer, filled, fileOf};
 ghost use Rattle.rules.specs.Refusals.{placeOutside, stepTooLong};
-ghost use Rattle.rules.specs.Promises.{was, left};
+ghost use Rattle.rules.specs.Promises.{was, left, Wrote};
 ghost use Rattle.rules.specs.declared.Extension.the-variants.{Of};
 ghost use Rattle.rules.specs.declared.Format.the-variants.{Jef};
 ghost use Rattle.rules.specs.declared.Previous.the-variants.{First};
@@ -260,8 +259,7 @@ pub fn write_jef(
     threads: &[u8],
     out: &mut [u8],
 ) -> WriteAnswer
-    ensures { λ r. ⌜ r ≡ writeAnswer (writeVerdict (Of Jef) [] (was xs) (was ys) (was kinds) (was threads) (length (was out))) (length (fileOf Jef [] (commands (was xs) (was ys) (was kinds)) (was threads))) ⌝ }
-    ensures { λ _. ⌜ left out ≡ filled (writeVerdict (Of Jef) [] (was xs) (was ys) (was kinds) (was threads) (length (was out))) (fileOf Jef [] (commands (was xs) (was ys) (was kinds)) (was threads)) (was out) ⌝ }
+    ensures { λ w. ⌜ Wrote (Of Jef) [] (was xs) (was ys) (was kinds) (was threads) (was out) (left out) w ⌝ }
 {
     let checked = check_list(Format::Jef, xs, ys, kinds, threads);
     match checked {

@@ -7,16 +7,17 @@ use lib.IntN.{ℤ}
 use lib.ListN.{length, length-append}
 use Rattle.rules.specs.Vocabulary.{little, joined}
 use Rattle.rules.specs.Lists.{commands, minX, maxY}
-use Rattle.rules.specs.Pec.{pecPart}
+use Rattle.rules.specs.Pec.{pecPart, pecFile}
 use Rattle.rules.specs.Pes.{pesStart, shorts, pesBlocks, pesMiddle, pesFile}
 use Rattle.rules.specs.Refusals.{stepsPast, stepTooLong, stepIn, leastStep, greatestStep}
 use Rattle.rules.specs.declared.Cmd.{Cmd}
 use Rattle.rules.specs.declared.Color.{Color}
 use Rattle.rules.specs.declared.Format.the-variants.{Pes, Pec}
 use Rattle.laws.specs.Buffers.{Put, put-length}
-use Rattle.laws.specs.Lengths.{joined-append, length-shorts, length-sections, length-log, blocks-length, middle-length, pes-length}
+use Rattle.laws.specs.Lengths.{joined-append, length-shorts, length-sections, length-log, blocks-length, middle-length, pec-length, pes-length}
 use Rattle.laws.specs.Listing.{length-commands}
 use Rattle.laws.specs.Little.{length-little}
+use Rattle.pec_part.specs.Parts.{partLong}
 use Rattle.pes_sections.specs.States.{measures}
 use Rattle.pes_sections.specs.declared.Sizes.{Sizes}
 use Rattle.pes.specs.Lists.{startParts, startText}
@@ -48,6 +49,14 @@ module _ (cs : List Cmd) (ts : List Color) (z : Sizes) (m : measures ts cs z) wh
 
 pub file-long : (name : List ℕ) (cs : List Cmd) (ts : List Color) → length (pesFile name cs ts) ≡ 22 + length (pesBlocks cs ts) + length (pecPart name cs ts)
 file-long name cs ts = omega (arith, pes-length name cs ts, middle-length cs ts)
+
+-- how long the files are, by what a writer measures
+pub pec-long : (name : List ℕ) {cs : List Cmd} {ts : List Color} {p : ℕ} → partLong ts cs p → length (pecFile name cs ts) ≡ 8 + p
+pec-long name {cs} {ts} l = omega (arith, l .long name, pec-length name cs ts)
+
+pub pes-long : (name : List ℕ) {cs : List Cmd} {ts : List Color} {z : Sizes} {b p : ℕ} → measures ts cs z → b ≡ 88 + z .bytes + 4 * z .logged → partLong ts cs p
+    → length (pesFile name cs ts) ≡ 22 + b + p
+pes-long name {cs} {ts} {z} m e l = omega (arith, blocks-long cs ts z m, e, l .long name, file-long name cs ts)
 
 -- ---- the parts in a row
 

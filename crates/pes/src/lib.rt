@@ -22,12 +22,11 @@ ghost use mathlib.Core.Path.{_≡_};
 ghost use mathlib.Core.Bool.{false};
 ghost use Prim.Native.Nat.{_+_, _≤_};
 ghost use lib.ListN.{length};
-ghost use Rattle.rules.specs.Files.{writeVerdict, writeAnswer, filled, fileOf};
 ghost use Rattle.rules.specs.Lists.{commands, threadsOf};
 ghost use Rattle.rules.specs.Pec.{pecFile};
 ghost use Rattle.rules.specs.Pes.{pesFile};
 ghost use Rattle.rules.specs.Refusals.{placeOutside, stepTooLong};
-ghost use Rattle.rules.specs.Promises.{was, left};
+ghost use Rattle.rules.specs.Promises.{was, left, Wrote};
 ghost use Rattle.rules.specs.declared.Extension.the-variants.{Of};
 ghost use Rattle.rules.specs.declared.Format.the-variants.{Pes, Pec};
 ghost use Rattle.laws.specs.Buffers.{Puts};
@@ -87,8 +86,7 @@ pub fn write_pec_file(
     threads: &[u8],
     out: &mut [u8],
 ) -> WriteAnswer
-    ensures { λ r. ⌜ r ≡ writeAnswer (writeVerdict (Of Pec) (was name) (was xs) (was ys) (was kinds) (was threads) (length (was out))) (length (fileOf Pec (was name) (commands (was xs) (was ys) (was kinds)) (was threads))) ⌝ }
-    ensures { λ _. ⌜ left out ≡ filled (writeVerdict (Of Pec) (was name) (was xs) (was ys) (was kinds) (was threads) (length (was out))) (fileOf Pec (was name) (commands (was xs) (was ys) (was kinds)) (was threads)) (was out) ⌝ }
+    ensures { λ w. ⌜ Wrote (Of Pec) (was name) (was xs) (was ys) (was kinds) (was threads) (was out) (left out) w ⌝ }
 {
     let checked = check_list(Format::Pec, xs, ys, kinds, threads);
     match checked {
@@ -127,7 +125,9 @@ fn put_pes_file(
     requires { ⌜ b ≡ boundsOf (commands (now xs) (now ys) (now kinds)) ⌝ }
     requires { ⌜ Coded (threadsOf (now threads)) (now codes) ⌝ }
     requires { ⌜ Drawn (commands (now xs) (now ys) (now kinds)) (now kinds) (now threads) n ⌝ }
-    requires { ⌜ (placeOutside (commands (now xs) (now ys) (now kinds)) ≡ false) × ((measures (threadsOf (now threads)) (commands (now xs) (now ys) (now kinds)) z) × ((z .bytes ≤ 1048560) × (z .logged ≤ 65535))) ⌝ }
+    requires { ⌜ placeOutside (commands (now xs) (now ys) (now kinds)) ≡ false ⌝ }
+    requires { ⌜ measures (threadsOf (now threads)) (commands (now xs) (now ys) (now kinds)) z ⌝ }
+    requires { ⌜ (z .bytes ≤ 1048560) × (z .logged ≤ 65535) ⌝ }
     requires { ⌜ length (pesFile (now name) (commands (now xs) (now ys) (now kinds)) (threadsOf (now threads))) ≤ length (now out) ⌝ }
     ensures { λ r. ⌜ Puts out 0 r (pesFile (was name) (commands (was xs) (was ys) (was kinds)) (threadsOf (was threads))) ⌝ }
 {
@@ -170,8 +170,7 @@ pub fn pes_from_stream(
     threads: &[u8],
     out: &mut [u8],
 ) -> WriteAnswer
-    ensures { λ r. ⌜ r ≡ writeAnswer (writeVerdict (Of Pes) (was name) (was xs) (was ys) (was kinds) (was threads) (length (was out))) (length (fileOf Pes (was name) (commands (was xs) (was ys) (was kinds)) (was threads))) ⌝ }
-    ensures { λ _. ⌜ left out ≡ filled (writeVerdict (Of Pes) (was name) (was xs) (was ys) (was kinds) (was threads) (length (was out))) (fileOf Pes (was name) (commands (was xs) (was ys) (was kinds)) (was threads)) (was out) ⌝ }
+    ensures { λ w. ⌜ Wrote (Of Pes) (was name) (was xs) (was ys) (was kinds) (was threads) (was out) (left out) w ⌝ }
 {
     let checked = check_list(Format::Pes, xs, ys, kinds, threads);
     match checked {

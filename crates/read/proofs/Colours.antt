@@ -18,7 +18,7 @@ use Rattle.rules.specs.declared.Slot.the-variants.{Empty, Thread}
 use Rattle.read_header.specs.Colors.{Held, Stored}
 use Rattle.read_builder.proofs.Colours.{cell}
 use Rattle.read_builder.specs.Colour.{colourIn}
-use Rattle.read.specs.Answered.{Answered}
+use Rattle.read.specs.Answered.{RecordsGiven}
 
 -- blocks ask for colours by number only
 module _ (c d : ℕ → ℕ) (e : (k : ℕ) → c k ≡ d k) where
@@ -49,5 +49,5 @@ stored-colour f cells r s h k = elim (decLt k r) [
 
 -- the same answers by other names of the colours and the bytes
 pub answered-as : (f : Format) {c d : ℕ → ℕ} {bytes t : List ℕ} {P P′ : List ℤ} {R R′ B B′ : List ℕ} {r : ReadAnswer} → ((k : ℕ) → c k ≡ d k) → bytes ≡ t
-    → Answered c f bytes P P′ R R′ B B′ r → Answered d f t P P′ R R′ B B′ r
+    → RecordsGiven c f bytes P P′ R R′ B B′ r → RecordsGiven d f t P P′ R R′ B B′ r
 answered-as f {c} {d} {bytes} e eb g = rw (← eb, ← blocks-same c d e 0 0 0 (events (firstOf f) bytes)) g

@@ -11,7 +11,9 @@ use lib.Dec.{ltb}
 use lib.IntN.{ℤ, pos}
 use lib.Signed.{ltZ}
 use lib.ListN.{length, drop}
-use Rattle.rules.specs.Files.{eventsOf, placesOf, runsOf, blocksOf, colourOf, stored, orDefault, countsOf, fileRefusals, noRoom, readVerdict, readAnswer, filled}
+use Rattle.rules.specs.Files.{eventsOf, placesOf, runsOf, blocksOf, colourOf, stored, orDefault, fileRefusals, noRoom, readVerdict, readAnswer, filled}
+use Rattle.rules.specs.Files.{placesTold, runsTold, blocksTold}
+use Rattle.rules.specs.Promises.{ReadOf}
 use Rattle.read_records.specs.Firsts.{firstOf}
 use Rattle.rules.specs.Text.{wordAt, begins}
 use Rattle.rules.specs.Pec.{pecEvents, pecColor, noCount}
@@ -23,6 +25,7 @@ use Rattle.rules.specs.declared.Extension.the-variants.{Of}
 use Rattle.rules.specs.declared.Format.{Format}
 use Rattle.rules.specs.declared.Format.the-variants.{Pes, Pec, Jef}
 use Rattle.rules.specs.declared.ReadAnswer.{ReadAnswer}
+use Rattle.rules.specs.declared.ReadAnswer.the-variants.{Unread}
 use Rattle.rules.specs.declared.Refusal.{Refusal}
 use Rattle.rules.specs.declared.Verdict.{Verdict}
 use Rattle.rules.specs.declared.Verdict.the-variants.{Accepted, Refused}
@@ -30,7 +33,7 @@ use Rattle.laws.specs.Arms.{pes-pec}
 use Rattle.laws.specs.Verdicts.{first-false, verdict-on, verdict-stop}
 use Rattle.read_refusals.specs.Openings.{partStart, started, frontOf}
 use Rattle.read_refusals.specs.declared.Opening.the-variants.{At, Not}
-use Rattle.read.specs.Answered.{Opened, roomVerdict, Answered, FileAnswered}
+use Rattle.read.specs.Answered.{Opened, roomVerdict, RecordsGiven, FileGiven}
 
 never : {n : ℕ} {r : Refusal} → At n ≡ Not r → ⊥
 never e = let z : _≡_ {A = ℕ} 0 1 = cc in omega arith
@@ -43,36 +46,29 @@ refused : (v : Verdict) (n : ℕ) {r : Refusal} → started v n ≡ Not r → v 
 refused Accepted n e = absurd (never e)
 refused (Refused q) n {r} e = cc
 
-module _ (f : Format) (s : List ℕ) where
+module _ {f : Format} {s : List ℕ} where
   pub opened : {start : ℕ} → frontOf f s ≡ At start → Opened f s start
   unfolding frontOf
   opened e = let b = begun (verdict (fileRefusals f s)) (partStart f s) e in record { accepted = b .0; begins = b .1 }
 
   -- ---- the whole read
 
-  pub refused-read : {r : Refusal} → frontOf f s ≡ Not r → (n m k : ℕ) → readVerdict (Of f) s n m k ≡ Refused r
-  unfolding frontOf readVerdict
-  refused-read {r} e n m k = verdict-stop (fileRefusals f s) _ r (refused (verdict (fileRefusals f s)) (partStart f s) e)
+  module _ {P : List ℤ} {R B : List ℕ} where
+    -- the file is refused
+    pub not-read : {r : Refusal} → frontOf f s ≡ Not r → ReadOf (Of f) s P R B P R B (Unread r)
+    unfolding frontOf readVerdict readAnswer filled
+    not-read {r} e =
+        let w = refused (verdict (fileRefusals f s)) (partStart f s) e in
+        let v : readVerdict (Of f) s (length P) (length R) (length B) ≡ Refused r = verdict-stop (fileRefusals f s) _ r w in
+        record { answered = rw v; places-are = rw v; runs-are = rw v; blocks-are = rw v }
 
-  open-verdict : {start : ℕ} → Opened f s start → (n m k : ℕ) → readVerdict (Of f) s n m k ≡ roomVerdict (placesOf f s) (runsOf f s) (blocksOf f s) n m k
-  unfolding readVerdict noRoom roomVerdict
-  open-verdict o n m k = verdict-on (fileRefusals f s) _ (o .accepted)
-
-  module _ {start : ℕ} (o : Opened f s start) {P P′ : List ℤ} {R R′ B B′ : List ℕ} {r : ReadAnswer} (g : FileAnswered f s P P′ R R′ B B′ r) where
-    v : readVerdict (Of f) s (length P) (length R) (length B) ≡ roomVerdict (placesOf f s) (runsOf f s) (blocksOf f s) (length P) (length R) (length B)
-    v = open-verdict o (length P) (length R) (length B)
-
-    pub read-told : r ≡ readAnswer (readVerdict (Of f) s (length P) (length R) (length B)) (countsOf (placesOf f s) (runsOf f s) (blocksOf f s))
-    read-told = rw v (g .told)
-
-    pub read-places : P′ ≡ filled (readVerdict (Of f) s (length P) (length R) (length B)) (placesOf f s) P
-    read-places = rw v (g .places)
-
-    pub read-runs : R′ ≡ filled (readVerdict (Of f) s (length P) (length R) (length B)) (runsOf f s) R
-    read-runs = rw v (g .runs)
-
-    pub read-blocks : B′ ≡ filled (readVerdict (Of f) s (length P) (length R) (length B)) (blocksOf f s) B
-    read-blocks = rw v (g .blocks)
+    -- the file is not refused, and the room decides
+    pub has-read : {start : ℕ} {P′ : List ℤ} {R′ B′ : List ℕ} {r : ReadAnswer} → Opened f s start → FileGiven f s P P′ R R′ B B′ r → ReadOf (Of f) s P R B P′ R′ B′ r
+    unfolding readVerdict noRoom roomVerdict placesTold runsTold blocksTold
+    has-read o g =
+        let room = roomVerdict (placesOf f s) (runsOf f s) (blocksOf f s) (length P) (length R) (length B) in
+        let v : readVerdict (Of f) s (length P) (length R) (length B) ≡ room = verdict-on (fileRefusals f s) _ (o .accepted) in
+        record { answered = rw v (g .told); places-are = rw v (g .places); runs-are = rw v (g .runs); blocks-are = rw v (g .blocks) }
 
 -- ---- what each format needs of the checks
 
@@ -109,14 +105,14 @@ module _ {s : List ℕ} {start : ℕ} where
       pes-pec (λ (g : Format). Opened g s start → (length s ≤ 2097152) × (start < length s))
       (λ p. (not-long Pes p, omega (arith, pes-counted p))) (λ p. (not-long Pec p, omega (arith, pec-counted p))) f k o
 
-  module _ {P P′ : List ℤ} {R R′ B B′ : List ℕ} {r : ReadAnswer} (g : Answered (λ k. orDefault (pecColor start s k) k) Pec (drop (start + 528) s) P P′ R R′ B B′ r) where
-    as-pes : Opened Pes s start → FileAnswered Pes s P P′ R R′ B B′ r
+  module _ {P P′ : List ℤ} {R R′ B B′ : List ℕ} {r : ReadAnswer} (g : RecordsGiven (λ k. orDefault (pecColor start s k) k) Pec (drop (start + 528) s) P P′ R R′ B B′ r) where
+    as-pes : Opened Pes s start → FileGiven Pes s P P′ R R′ B B′ r
     unfolding placesOf runsOf blocksOf eventsOf pecEvents firstOf colourOf stored partStart
-    as-pes o = subst (λ (n : ℕ). Answered (λ k. orDefault (pecColor n s k) k) Pec (drop (n + 528) s) P P′ R R′ B B′ r) (o .begins) g
+    as-pes o = subst (λ (n : ℕ). RecordsGiven (λ k. orDefault (pecColor n s k) k) Pec (drop (n + 528) s) P P′ R R′ B B′ r) (o .begins) g
 
-    as-pec : Opened Pec s start → FileAnswered Pec s P P′ R R′ B B′ r
+    as-pec : Opened Pec s start → FileGiven Pec s P P′ R R′ B B′ r
     unfolding placesOf runsOf blocksOf eventsOf pecEvents firstOf colourOf stored partStart
-    as-pec o = subst (λ (n : ℕ). Answered (λ k. orDefault (pecColor n s k) k) Pec (drop (n + 528) s) P P′ R R′ B B′ r) (o .begins) g
+    as-pec o = subst (λ (n : ℕ). RecordsGiven (λ k. orDefault (pecColor n s k) k) Pec (drop (n + 528) s) P P′ R R′ B B′ r) (o .begins) g
 
-    pub part-answered : (f : Format) → OneOf (0 ∷ 1 ∷ []) (tagOf the-type f) → Opened f s start → FileAnswered f s P P′ R R′ B B′ r
-    part-answered f k o = pes-pec (λ (h : Format). Opened h s start → FileAnswered h s P P′ R R′ B B′ r) as-pes as-pec f k o
+    pub part-answered : (f : Format) → OneOf (0 ∷ 1 ∷ []) (tagOf the-type f) → Opened f s start → FileGiven f s P P′ R R′ B B′ r
+    part-answered f k o = pes-pec (λ (h : Format). Opened h s start → FileGiven h s P P′ R R′ B B′ r) as-pes as-pec f k o

@@ -23,11 +23,11 @@ ghost use mathlib.Core.Path.{_≡_};
 ghost use mathlib.Core.Bool.{false};
 ghost use Prim.Native.Nat.{_+_, _≤_, _<_};
 ghost use lib.ListN.{length, drop};
-ghost use Rattle.rules.specs.Files.{orDefault, placesOf, runsOf, blocksOf, placesTold, runsTold, blocksTold, countsOf, readVerdict, readAnswer, filled};
+ghost use Rattle.rules.specs.Files.{orDefault};
 ghost use Rattle.rules.specs.Pec.{pecColor};
 ghost use Rattle.rules.specs.Jef.{jefRecords};
 ghost use Rattle.rules.specs.Refusals.{extensionOf};
-ghost use Rattle.rules.specs.Promises.{was, left};
+ghost use Rattle.rules.specs.Promises.{was, left, ReadOf};
 ghost use Rattle.rules.specs.declared.Extension.the-variants.{Of};
 ghost use Rattle.rules.specs.declared.Format.the-variants.{Pec, Dst, Exp, Jef};
 ghost use Rattle.read_builder.specs.Colour.{colourIn};
@@ -56,7 +56,7 @@ fn read_records(
     blocks: &mut [u32],
 ) -> ReadAnswer
     requires { ⌜ length (now bytes) ≤ 2097152 ⌝ }
-    ensures { λ r. ⌜ Answered (colourIn (was colors)) f (was bytes) (was places) (left places) (was runs) (left runs) (was blocks) (left blocks) r ⌝ }
+    ensures { λ r. ⌜ Answered (colourIn (was colors)) f (was bytes) places runs blocks r ⌝ }
 {
     if ample(bytes.len(), places.len(), runs.len(), blocks.len()) {
         return ReadAnswer::Read(fill(f, bytes, colors, places, runs, blocks));
@@ -84,7 +84,7 @@ fn read_pec(
     blocks: &mut [u32],
 ) -> ReadAnswer
     requires { ⌜ (length (now file) ≤ 2097152) × (start < length (now file)) ⌝ }
-    ensures { λ r. ⌜ Answered (λ k. orDefault (pecColor start (was file) k) k) Pec (drop (start + 528) (was file)) (was places) (left places) (was runs) (left runs) (was blocks) (left blocks) r ⌝ }
+    ensures { λ r. ⌜ Answered (λ k. orDefault (pecColor start (was file) k) k) Pec (drop (start + 528) (was file)) places runs blocks r ⌝ }
 {
     let mut colors = [0u32; 256];
     let n = pec_colors(file, start, &mut colors);
@@ -100,7 +100,7 @@ fn read_pec(
 
 fn read_dst(file: &[u8], places: &mut [i32], runs: &mut [u32], blocks: &mut [u32]) -> ReadAnswer
     requires { ⌜ length (now file) ≤ 2097152 ⌝ }
-    ensures { λ r. ⌜ FileAnswered Dst (was file) (was places) (left places) (was runs) (left runs) (was blocks) (left blocks) r ⌝ }
+    ensures { λ r. ⌜ FileAnswered Dst (was file) places runs blocks r ⌝ }
 {
     let mut colors = [0u32; 256];
     let n = dst_colors(file, &mut colors);
@@ -117,7 +117,7 @@ fn read_dst(file: &[u8], places: &mut [i32], runs: &mut [u32], blocks: &mut [u32
 // EXP stores no colours.
 fn read_exp(file: &[u8], places: &mut [i32], runs: &mut [u32], blocks: &mut [u32]) -> ReadAnswer
     requires { ⌜ length (now file) ≤ 2097152 ⌝ }
-    ensures { λ r. ⌜ FileAnswered Exp (was file) (was places) (left places) (was runs) (left runs) (was blocks) (left blocks) r ⌝ }
+    ensures { λ r. ⌜ FileAnswered Exp (was file) places runs blocks r ⌝ }
 {
     let none = [0u32; 1];
     read_records(Format::Exp, file, &none[..0], places, runs, blocks)
@@ -140,7 +140,7 @@ fn jef_stitches(file: &[u8]) -> &[u8]
 
 fn read_jef(file: &[u8], places: &mut [i32], runs: &mut [u32], blocks: &mut [u32]) -> ReadAnswer
     requires { ⌜ (length (now file) ≤ 2097152) × (4 ≤ length (now file)) ⌝ }
-    ensures { λ r. ⌜ FileAnswered Jef (was file) (was places) (left places) (was runs) (left runs) (was blocks) (left blocks) r ⌝ }
+    ensures { λ r. ⌜ FileAnswered Jef (was file) places runs blocks r ⌝ }
 {
     let mut colors = [0u32; 256];
     let n = jef_colors(file, &mut colors);
@@ -164,7 +164,7 @@ fn read_part(
     blocks: &mut [u32],
 ) -> ReadAnswer
     requires { ⌜ Opened f (now file) start ⌝ }
-    ensures { λ r. ⌜ FileAnswered f (was file) (was places) (left places) (was runs) (left runs) (was blocks) (left blocks) r ⌝ }
+    ensures { λ r. ⌜ FileAnswered f (was file) places runs blocks r ⌝ }
 {
     match f {
         Format::Pes | Format::Pec => read_pec(file, start, places, runs, blocks),
@@ -182,10 +182,7 @@ pub fn read_stitch_file(
     runs: &mut [u32],
     blocks: &mut [u32],
 ) -> ReadAnswer
-    ensures { λ r. ⌜ r ≡ readAnswer (readVerdict (Of f) (was file) (length (was places)) (length (was runs)) (length (was blocks))) (countsOf (placesOf f (was file)) (runsOf f (was file)) (blocksOf f (was file))) ⌝ }
-    ensures { λ r. ⌜ left places ≡ filled (readVerdict (Of f) (was file) (length (was places)) (length (was runs)) (length (was blocks))) (placesOf f (was file)) (was places) ⌝ }
-    ensures { λ r. ⌜ left runs ≡ filled (readVerdict (Of f) (was file) (length (was places)) (length (was runs)) (length (was blocks))) (runsOf f (was file)) (was runs) ⌝ }
-    ensures { λ r. ⌜ left blocks ≡ filled (readVerdict (Of f) (was file) (length (was places)) (length (was runs)) (length (was blocks))) (blocksOf f (was file)) (was blocks) ⌝ }
+    ensures { λ r. ⌜ ReadOf (Of f) (was file) (was places) (was runs) (was blocks) (left places) (left runs) (left blocks) r ⌝ }
 {
     let found = front(f, file);
     match found {
@@ -202,10 +199,7 @@ pub fn read(
     runs: &mut [u32],
     blocks: &mut [u32],
 ) -> ReadAnswer
-    ensures { λ r. ⌜ r ≡ readAnswer (readVerdict (extensionOf (was ext)) (was file) (length (was places)) (length (was runs)) (length (was blocks))) (countsOf (placesTold (extensionOf (was ext)) (was file)) (runsTold (extensionOf (was ext)) (was file)) (blocksTold (extensionOf (was ext)) (was file))) ⌝ }
-    ensures { λ r. ⌜ left places ≡ filled (readVerdict (extensionOf (was ext)) (was file) (length (was places)) (length (was runs)) (length (was blocks))) (placesTold (extensionOf (was ext)) (was file)) (was places) ⌝ }
-    ensures { λ r. ⌜ left runs ≡ filled (readVerdict (extensionOf (was ext)) (was file) (length (was places)) (length (was runs)) (length (was blocks))) (runsTold (extensionOf (was ext)) (was file)) (was runs) ⌝ }
-    ensures { λ r. ⌜ left blocks ≡ filled (readVerdict (extensionOf (was ext)) (was file) (length (was places)) (length (was runs)) (length (was blocks))) (blocksTold (extensionOf (was ext)) (was file)) (was blocks) ⌝ }
+    ensures { λ r. ⌜ ReadOf (extensionOf (was ext)) (was file) (was places) (was runs) (was blocks) (left places) (left runs) (left blocks) r ⌝ }
 {
     let named = extension_of(ext);
     let Extension::Of(f) = named else {

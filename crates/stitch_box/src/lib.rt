@@ -18,10 +18,10 @@ use rules::WriteAnswer;
 ghost use mathlib.Core.Path.{_≡_};
 ghost use Prim.Native.Nat.{_≤_, min};
 ghost use Rattle.rules.specs.Files.{labelTold};
-ghost use Rattle.rules.specs.Promises.{was, left, Wrote, boundOf, boundTold, ReadOf, WroteAndRead};
+ghost use Rattle.rules.specs.Promises.{was, left, Wrote, boundOf, boundTold, ReadOf};
 ghost use Rattle.rules.specs.Refusals.{extensionOf};
 ghost use Rattle.rules.specs.declared.Extension.the-variants.{Of};
-ghost use Rattle.stitch_box.specs.Back.{ReadBackOf};
+ghost use Rattle.stitch_box.specs.Back.{ReadBackOf, WritesAndReads};
 
 // `write` in a format that is known. The order of the arms is for speed: the compiler puts all writers into this function.
 pub fn write_stitch_file(
@@ -157,8 +157,7 @@ pub fn write_and_read(
     runs: &mut [u32],
     blocks: &mut [u32],
 ) -> RoundTripAnswer
-    ensures { λ a. ⌜ WroteAndRead (extensionOf (was ext)) (was name) (was xs) (was ys) (was kinds) (was threads)
-        (was file) (was places) (was runs) (was blocks) (left file) (left places) (left runs) (left blocks) a ⌝ }
+    ensures { λ a. ⌜ WritesAndReads (extensionOf (was ext)) (was name) (was xs) (was ys) (was kinds) (was threads) file places runs blocks a ⌝ }
 {
     let written = write(ext, name, xs, ys, kinds, threads, file);
     match written {

@@ -1,8 +1,15 @@
--- The number, start and length of what the label's call answers.
+-- The number, start and length of what the label's call answers, and two promises of crate rules by what an export is lent.
 use Prim.Native.Nat.{ℕ}
+use mathlib.Core.List.{List}
+use denote.Ref.{RefT}
+use denote.Triple.Both.{Both}
+use lib.IntN.{ℤ}
 use Rattle.read_refusals.specs.declared.LabelAnswer.{LabelAnswer}
 use Rattle.read_refusals.specs.declared.LabelAnswer.the-variants.{Found, Not}
+use Rattle.rules.specs.Promises.{was, left, xsOf, ysOf, kindsOf, ReadNumbers, WroteNumbers}
 use Rattle.rules.specs.Refusals.{numberOf}
+use Rattle.rules.specs.declared.Cmd.{Cmd}
+use Rattle.rules.specs.declared.Extension.{Extension}
 
 abbrev pub labelNumber : LabelAnswer → ℕ
 labelNumber (Found p) = 0
@@ -15,3 +22,16 @@ labelStart (Not r) = 0
 abbrev pub labelLength : LabelAnswer → ℕ
 labelLength (Found p) = p .len
 labelLength (Not r) = 0
+
+-- what a call is lent, at entry and at exit
+abbrev pub Lent : Type 0 → Type 0
+Lent A = Both (RefT A) (RefT A)
+
+-- `ReadNumbers` of the buffers and the numbers lent
+abbrev pub ReadsNumbers : Extension → List ℕ → Lent (List ℤ) → Lent (List ℕ) → Lent (List ℕ) → ℕ → Lent ℕ → Lent ℕ → Lent ℕ → Lent ℕ → Type 0
+ReadsNumbers e file places runs blocks r points runs-n blocks-n cuts =
+    ReadNumbers e file (was places) (was runs) (was blocks) (left places) (left runs) (left blocks) r (left points) (left runs-n) (left blocks-n) (left cuts)
+
+-- `WroteNumbers` of a list of records
+abbrev pub WroteCmdsNumbers : Extension → List ℕ → List Cmd → List ℕ → List ℕ → List ℕ → ℕ → ℕ → Type 0
+WroteCmdsNumbers e name cmds threads out out′ r len = WroteNumbers e name (xsOf cmds) (ysOf cmds) (kindsOf cmds) threads out out′ r len

@@ -7,9 +7,9 @@ use rules::WriteAnswer;
 use write_refusals::number;
 ghost use mathlib.Core.Path.{_≡_};
 ghost use Rattle.rules.specs.Files.{readNumber, readCounts, writeNumber, writeLength};
-ghost use Rattle.rules.specs.Promises.{was, left, xsOf, ysOf, kindsOf, WroteNumbers, boundTold, ReadNumbers, LabelNumbers};
+ghost use Rattle.rules.specs.Promises.{was, left, WroteNumbers, boundTold, LabelNumbers};
 ghost use Rattle.rules.specs.Refusals.{extensionOf};
-ghost use Rattle.stitch_box_c.specs.Exports.{labelNumber, labelStart, labelLength};
+ghost use Rattle.stitch_box_c.specs.Exports.{labelNumber, labelStart, labelLength, ReadsNumbers, WroteCmdsNumbers};
 
 // The four counts of an answer, 0 under a refusal.
 fn counts_of(answer: ReadAnswer) -> Counts
@@ -49,8 +49,7 @@ pub extern "C" fn stitch_box_read(
     block_count: &mut u32,
     cut_count: &mut u32,
 ) -> u32
-    ensures { λ r. ⌜ ReadNumbers (extensionOf (was ext)) (was file) (was places) (was runs) (was blocks) (left places) (left runs) (left blocks)
-        r (left «point_count») (left «run_count») (left «block_count») (left «cut_count») ⌝ }
+    ensures { λ r. ⌜ ReadsNumbers (extensionOf (was ext)) (was file) places runs blocks r «point_count» «run_count» «block_count» «cut_count» ⌝ }
 {
     let answer = stitch_box::read(ext, file, places, runs, blocks);
     let c = counts_of(answer);
@@ -137,8 +136,7 @@ pub extern "C" fn stitch_box_write_cmds(
     out: &mut [u8],
     length: &mut u64,
 ) -> u32
-    ensures { λ r. ⌜ WroteNumbers (extensionOf (was ext)) (was name) (xsOf (was cmds)) (ysOf (was cmds)) (kindsOf (was cmds)) (was threads)
-        (was out) (left out) r (left length) ⌝ }
+    ensures { λ r. ⌜ WroteCmdsNumbers (extensionOf (was ext)) (was name) (was cmds) (was threads) (was out) (left out) r (left length) ⌝ }
 {
     let answer = stitch_box_cmds::write_cmds(ext, name, cmds, threads, out);
     put_length(answer, length)

@@ -6,6 +6,7 @@ use mathlib.Core.List.{List, [], _∷_}
 use lib.Dec.{ltb}
 use lib.IntN.{ℤ}
 use lib.ListN.{take}
+use lib.Seq.{sets}
 use Rattle.rules.specs.Lists.{commands}
 use Rattle.rules.specs.Promises.{xsOf, ysOf, kindsOf, Wrote}
 use Rattle.rules.specs.declared.Cmd.{Cmd}
@@ -14,6 +15,10 @@ use Rattle.rules.specs.declared.Format.{Format}
 use Rattle.rules.specs.declared.Refusal.the-variants.{BadList}
 use Rattle.rules.specs.declared.WriteAnswer.{WriteAnswer}
 use Rattle.rules.specs.declared.WriteAnswer.the-variants.{Unwritten}
+
+-- three slices before, and with the numbers of cs stored at their fronts
+abbrev pub Unpacked : List Cmd → List ℤ → List ℤ → List ℕ → List ℤ → List ℤ → List ℕ → Type 0
+Unpacked cs xs ys kinds xs′ ys′ kinds′ = (xs′ ≡ sets xs 0 (xsOf cs)) × (ys′ ≡ sets ys 0 (ysOf cs)) × (kinds′ ≡ sets kinds 0 (kindsOf cs))
 
 -- some are missing: 6, and the buffer is as it was
 abbrev pub FrontBy : Bool → Format → List ℕ → ℕ → List ℤ → List ℤ → List ℕ → List ℕ → List ℕ → List ℕ → WriteAnswer → Type 0

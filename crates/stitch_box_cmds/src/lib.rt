@@ -12,12 +12,11 @@ ghost use mathlib.Core.List.{map};
 ghost use Prim.Native.Nat.{_≤_};
 ghost use lib.Dec.{ltb};
 ghost use lib.ListN.{length, take};
-ghost use lib.Seq.{sets};
 ghost use Rattle.rules.specs.Promises.{was, left, xsOf, ysOf, kindsOf, Wrote};
 ghost use Rattle.rules.specs.Refusals.{extensionOf};
 ghost use Rattle.rules.specs.Vocabulary.{pick};
 ghost use Rattle.rules.specs.declared.Extension.the-variants.{Of};
-ghost use Rattle.stitch_box_cmds.specs.Records.{WroteFront};
+ghost use Rattle.stitch_box_cmds.specs.Records.{Unpacked, WroteFront};
 
 // How many of n records are unpacked: all, or none if they are more than a list may have.
 fn fitting(n: usize) -> usize
@@ -32,9 +31,7 @@ fn fitting(n: usize) -> usize
 // The numbers of the first n commands.
 fn unpack(cmds: &[Cmd], n: usize, xs: &mut [i32], ys: &mut [i32], kinds: &mut [u8])
     requires { ⌜ (n ≤ length (now cmds)) × (n ≤ length (now xs)) × (n ≤ length (now ys)) × (n ≤ length (now kinds)) ⌝ }
-    ensures { λ _. ⌜ (left xs ≡ sets (was xs) 0 (xsOf (take n (was cmds))))
-        × (left ys ≡ sets (was ys) 0 (ysOf (take n (was cmds))))
-        × (left kinds ≡ sets (was kinds) 0 (kindsOf (take n (was cmds)))) ⌝ }
+    ensures { λ _. ⌜ Unpacked (take n (was cmds)) (was xs) (was ys) (was kinds) (left xs) (left ys) (left kinds) ⌝ }
 {
     let mut i: usize = 0;
     while i < n {

@@ -23,9 +23,9 @@ use Rattle.rules.specs.declared.Scale.{Scale}
 use Rattle.laws.specs.Lengths.{blank-length, length-blocks}
 use Rattle.laws.specs.Listing.{noCmd}
 use Rattle.laws.specs.Tests.{by-test}
-use Rattle.thumbnail_tables.specs.Blocks.{blockIcons, iconsAfter}
+use Rattle.thumbnail_tables.specs.Blocks.{blockIcons, iconsBy, iconsAfter}
 use Rattle.thumbnail_tables.specs.Cells.{columnCell, rowCell, Filled, Inside, AllInside, bitSet, From, Framed}
-use Rattle.thumbnail_tables.specs.Looked.{rowless, looked, allLooked, blocksLooked}
+use Rattle.thumbnail_tables.specs.Looked.{rowless, looked, allLooked, blocksLooked, iconsLooked}
 use Rattle.thumbnail_tables.proofs.Places.{by-index, index-lt}
 
 -- ---- pictures that agree below row 0
@@ -210,7 +210,7 @@ module _ (columns rows bcolumns brows : List ℕ) (left top : ℤ) (w h : ℕ) (
     blocks-told = like-blocks bcolumns brows left top part w h f g cs blankIcon blankIcon k like-blank ∙ sym (blocks-after part cs)
 
     pub pictures-told : (whole : Scale) → Filled false (whole .scale) (whole .tx) left w columns → Filled true (whole .scale) (whole .ty) top h rows
-        → rowless (allLooked columns rows left top blankIcon cs) ++ blocksLooked bcolumns brows left top blankIcon cs ≡ drawn whole blankIcon cs ++ blockIcons part cs
+        → iconsLooked columns rows bcolumns brows left top cs ≡ iconsBy whole part cs
     pictures-told whole d e =
         ap (λ (v : List ℕ). v ++ blocksLooked bcolumns brows left top blankIcon cs) (like-done _ _ (like-all columns rows left top whole w h d e cs blankIcon blankIcon k like-blank))
         ∙ ap (λ (v : List ℕ). drawn whole blankIcon cs ++ v) blocks-told

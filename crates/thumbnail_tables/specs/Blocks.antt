@@ -11,6 +11,10 @@ use Rattle.rules.specs.declared.Scale.{Scale}
 unfoldable pub blockIcons : Scale → List Cmd → List ℕ
 blockIcons s cs = joined (map (drawn s blankIcon) (colorBlocks cs))
 
+-- the picture of the whole by one scale, then those of the blocks by the other
+abbrev pub iconsBy : Scale → Scale → List Cmd → List ℕ
+iconsBy whole part cs = drawn whole blankIcon cs ++ blockIcons part cs
+
 -- the commands to come, the picture of the block being as far as icon
 unfoldable pub iconsAfter : Scale → List ℕ → List Cmd → List ℕ
 iconsAfter s icon [] = icon

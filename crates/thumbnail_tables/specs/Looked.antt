@@ -26,3 +26,7 @@ module _ (columns rows : List ℕ) (left top : ℤ) where
   unfoldable pub blocksLooked : List ℕ → List Cmd → List ℕ
   blocksLooked icon [] = rowless icon
   blocksLooked icon (c ∷ cs) = pick (eqb (c .kind) 3) (rowless icon ++ blocksLooked blankIcon cs) (blocksLooked (looked icon c) cs)
+
+-- the picture of the whole by one pair of tables, then those of the blocks by the other
+abbrev pub iconsLooked : List ℕ → List ℕ → List ℕ → List ℕ → ℤ → ℤ → List Cmd → List ℕ
+iconsLooked columns rows bcolumns brows left top cs = rowless (allLooked columns rows left top blankIcon cs) ++ blocksLooked bcolumns brows left top blankIcon cs

@@ -17,12 +17,12 @@ ghost use lib.Seq.{sets};
 ghost use lib.Signed.{_≤ℤ_, _<ℤ_};
 ghost use Rattle.rules.specs.Charts.{blankIcon};
 ghost use Rattle.rules.specs.Lists.{commands};
-ghost use Rattle.rules.specs.Thumbnails.{pixelAt, drawn};
+ghost use Rattle.rules.specs.Thumbnails.{pixelAt};
 ghost use Rattle.rules.specs.Promises.{was, left};
 ghost use Rattle.laws.specs.Buffers.{Puts};
-ghost use Rattle.thumbnail_tables.specs.Blocks.{blockIcons};
+ghost use Rattle.thumbnail_tables.specs.Blocks.{blockIcons, iconsBy};
 ghost use Rattle.thumbnail_tables.specs.Cells.{columnCell, rowCell, cellOf, Filled, Inside, AllInside, bitSet, Framed};
-ghost use Rattle.thumbnail_tables.specs.Looked.{rowless, allLooked, blocksLooked};
+ghost use Rattle.thumbnail_tables.specs.Looked.{blocksLooked, iconsLooked};
 
 // The cell of a column: its byte in a row, and 256 times its bit; 0 outside the picture.
 fn column_cell(x: usize) -> u16
@@ -189,7 +189,7 @@ fn draw_looked(
     requires { ⌜ AllInside w h (now columns) (now rows) × AllInside w h (now bcolumns) (now brows) ⌝ }
     requires { ⌜ Framed left w top h (commands (now xs) (now ys) (now kinds)) ⌝ }
     requires { ⌜ at + (228 + length (blocksLooked (now bcolumns) (now brows) left top blankIcon (commands (now xs) (now ys) (now kinds)))) ≤ length (now out) ⌝ }
-    ensures { λ r. ⌜ Puts out at r (rowless (allLooked (was columns) (was rows) left top blankIcon (commands (was xs) (was ys) (was kinds))) ++ blocksLooked (was bcolumns) (was brows) left top blankIcon (commands (was xs) (was ys) (was kinds))) ⌝ }
+    ensures { λ r. ⌜ Puts out at r (iconsLooked (was columns) (was rows) (was bcolumns) (was brows) left top (commands (was xs) (was ys) (was kinds))) ⌝ }
 {
     let n = list_len(xs, ys, kinds);
     let mut icon = pec_icon_blank();
@@ -234,7 +234,7 @@ pub fn put_by_tables(
     requires { ⌜ ((natAbs left ≤ 65536) × (w ≤ 32768)) × ((natAbs top ≤ 65536) × (h ≤ 32768)) ⌝ }
     requires { ⌜ Framed left w top h (commands (now xs) (now ys) (now kinds)) ⌝ }
     requires { ⌜ at + (228 + length (blockIcons part (commands (now xs) (now ys) (now kinds)))) ≤ length (now out) ⌝ }
-    ensures { λ r. ⌜ Puts out at r (drawn whole blankIcon (commands (was xs) (was ys) (was kinds)) ++ blockIcons part (commands (was xs) (was ys) (was kinds))) ⌝ }
+    ensures { λ r. ⌜ Puts out at r (iconsBy whole part (commands (was xs) (was ys) (was kinds))) ⌝ }
 {
     let mut columns = [0u16; 32768];
     let mut rows = [0u16; 32768];

@@ -1,7 +1,7 @@
 -- The thumbnails of a list in a row: its scales from its bounds, the room for the blocks, and the parts joined.
 use Prim.Native.Nat.{ℕ, _+_, _≤_}
 use mathlib.Core.Path.{_≡_, ap, _∙_}
-use mathlib.Core.List.{List, _++_}
+use mathlib.Core.List.{List}
 use native.Mathlib.Omega.{arith}
 use lib.Ieee.{Float}
 use lib.ListN.{length}
@@ -17,7 +17,7 @@ use Rattle.rules.specs.declared.Scale.{Scale}
 use Rattle.laws.specs.Buffers.{Put, put-length, put-put, put-as}
 use Rattle.geom.specs.Frames.{boundsOf}
 use Rattle.geom.specs.declared.Bounds.{Bounds}
-use Rattle.thumbnail_tables.specs.Blocks.{blockIcons}
+use Rattle.thumbnail_tables.specs.Blocks.{blockIcons, iconsBy}
 use Rattle.thumbnail_scale.proofs.Joined.{scale-same}
 use Rattle.laws.specs.Lengths.{length-icons}
 use Rattle.thumbnails.proofs.Sizes.{icon-long, blocks-long}
@@ -39,7 +39,7 @@ module _ (cs : List Cmd) where
       buffer
 
   -- the two parts are all of them
-  pub icons-are : {s t : Scale} → s ≡ scaled f4 → t ≡ scaled f5 → drawn s blankIcon cs ++ blockIcons t cs ≡ icons cs
+  pub icons-are : {s t : Scale} → s ≡ scaled f4 → t ≡ scaled f5 → iconsBy s t cs ≡ icons cs
   unfolding icons blockIcons
   icons-are e f = rw (e, f)
 
@@ -51,5 +51,5 @@ module _ (cs : List Cmd) where
     pub blocks-room : at + (228 + length (blockIcons t cs)) ≤ length d → m + length (blockIcons t cs) ≤ length d′
     blocks-room h = omega (arith, ap length e, icon-long s (slice 0 n cs), put-length p)
 
-    pub blocks-put : {d″ : List ℕ} {r : ℕ} → n ≡ length cs → Put d′ d″ m r (blockIcons t cs) → Put d d″ at r (drawn s blankIcon cs ++ blockIcons t cs)
+    pub blocks-put : {d″ : List ℕ} {r : ℕ} → n ≡ length cs → Put d′ d″ m r (blockIcons t cs) → Put d d″ at r (iconsBy s t cs)
     blocks-put k q = put-as (put-put p q) (rw (e, take-all n cs (omega arith)))

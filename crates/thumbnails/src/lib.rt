@@ -14,7 +14,6 @@ use thumbnail_scale::scaled;
 use thumbnail_tables::put_by_tables;
 ghost use mathlib.Core.Path.{_≡_};
 ghost use mathlib.Core.Bool.{true};
-ghost use mathlib.Core.List.{_++_};
 ghost use Prim.Native.Nat.{_+_, _≤_};
 ghost use lib.IntN.{natAbs, _-ℤ_};
 ghost use lib.ListN.{length, drop};
@@ -25,7 +24,7 @@ ghost use Rattle.rules.specs.Thumbnails.{floorOf, within, pixel, painted, marke
 ghost use Rattle.rules.specs.Promises.{was, left};
 ghost use Rattle.laws.specs.Buffers.{Puts};
 ghost use Rattle.geom.specs.Frames.{boundsOf};
-ghost use Rattle.thumbnail_tables.specs.Blocks.{blockIcons};
+ghost use Rattle.thumbnail_tables.specs.Blocks.{blockIcons, iconsBy};
 ghost use Rattle.thumbnails.specs.Blocks.{changeFrom};
 ghost use Rattle.thumbnails.specs.Cells.{noCell, isIn, Covers, Seen};
 
@@ -241,7 +240,7 @@ fn put_plainly(
     at: usize,
 ) -> usize
     requires { ⌜ at + (228 + length (blockIcons part (commands (now xs) (now ys) (now kinds)))) ≤ length (now out) ⌝ }
-    ensures { λ r. ⌜ Puts out at r (drawn whole blankIcon (commands (was xs) (was ys) (was kinds)) ++ blockIcons part (commands (was xs) (was ys) (was kinds))) ⌝ }
+    ensures { λ r. ⌜ Puts out at r (iconsBy whole part (commands (was xs) (was ys) (was kinds))) ⌝ }
 {
     let n = list_len(xs, ys, kinds);
     let blocks = put_icon(draw_scaled(whole, xs, ys, kinds, 0, n), out, at);

@@ -3,8 +3,7 @@ use Rattle.stream.proofs.Lengths.{stream-most}
 use Rattle.stream_cmd.specs.declared.Stream.the-variants.{Dst}
 use native.Mathlib.Omega.{arith}
 use denote.Ref.{now}
-use Rattle.rules.specs.Lists.{commands}
-use Rattle.emit.proofs.Writes.{written, unwritten}
+use Rattle.emit.proofs.Writes.{fits, written, unwritten}
 use Rattle.dst.proofs.Whole.{length-file}
 use borrow.Author.Needs.{needs}
 use Rattle.dst.proofs.write_accepted.Statement.{statement}
@@ -16,25 +15,16 @@ add-n c =
     omega (arith, c .stream-len .ensures, stream-most Dst (now (a .xs)) (now (a .ys)) (now (a .kinds)), c .before .before .before .before .pre .0)
 
 returns : tie.Need-returns
-returns c =
-    let a = c .before .before .before .before .before .args in
-    let cs = commands (now (a .xs)) (now (a .ys)) (now (a .kinds)) in
-    unwritten (omega (arith, length-file (now (a .name)) cs, c .before .stream-len .ensures, c .if1 .taken))
+returns c = unwritten (c .if1 .taken) (rw (c .before .stream-len .ensures) (length-file _ _))
 
 put-file-requires : tie.Need-put-file-requires
 put-file-requires c κs =
-    let start = c .before .before .before .before .before .before in
-    let a = start .args in
-    let cs = commands (now (a .xs)) (now (a .ys)) (now (a .kinds)) in
-    (start .pre, omega (arith, length-file (now (a .name)) cs, c .before .before .stream-len .ensures, c .before .if1 .left))
+    (c .before .before .before .before .before .before .pre, fits (c .before .if1 .left) (rw (c .before .before .stream-len .ensures) (length-file _ _)))
 
 returns-2 : tie.Need-returns-2
 returns-2 c =
     let if1 = c .before .before .before .before .if1 in let stream-len = c .before .before .before .before .before .stream-len in
-    let start = c .before .before .before .before .before .before .before .before .before in
-    let a = start .args in
-    let cs = commands (now (a .xs)) (now (a .ys)) (now (a .kinds)) in
-    written (omega (arith, length-file (now (a .name)) cs, stream-len .ensures, if1 .left)) (c .before .before .put-file .ensures)
+    written (if1 .left) (rw (stream-len .ensures) (length-file _ _)) (c .before .before .put-file .ensures)
 
 pub write-accepted-spec : {M : Type 1} → statement M
 write-accepted-spec =

@@ -14,7 +14,7 @@ put-start-requires c κs =
     let a = c .before .before .before .before .before .before .args in
     let cs = commands (now (a .xs)) (now (a .ys)) (now (a .kinds)) in
     let ts = threadsOf (now (a .threads)) in
-    room-start (now (a .name)) cs ts (now (a .out)) (c .before .before .before .before .before .before .pre .1 .1 .1 .1)
+    room-start (now (a .name)) cs ts (now (a .out)) (c .before .before .before .before .before .before .pre .1 .1 .1 .1 .1 .1)
 
 write-pes-blocks-requires : tie.Need-write-pes-blocks-requires
 write-pes-blocks-requires c κs =
@@ -24,7 +24,7 @@ write-pes-blocks-requires c κs =
     let cs = commands (now (a .xs)) (now (a .ys)) (now (a .kinds)) in
     let ts = threadsOf (now (a .threads)) in
     let p = start′ .pre .1 .1 in
-    (start′ .pre .0, (start′ .pre .1 .0, ((p .0 .long, p .1 .0 .0), (p .1 .0 .1 .0, room-blocks (now (a .name)) cs ts (now (a .out)) (p .1 .1) _ (put-start .ensures)))))
+    (start′ .pre .0, (start′ .pre .1 .0, ((p .0 .long, p .1 .0), (p .1 .1 .0, room-blocks (now (a .name)) cs ts (now (a .out)) (p .1 .1 .1 .1) _ (put-start .ensures)))))
 
 write-pec-requires : tie.Need-write-pec-requires
 write-pec-requires c κs =
@@ -36,7 +36,7 @@ write-pec-requires c κs =
     let ts = threadsOf (now (a .threads)) in
     let p = start′ .pre .1 .1 in
     let g = p .0 in
-    (start′ .pre .0, ((g .long, (g .few, g .steps)), (g .bytes, room-part (now (a .name)) cs ts (now (a .out)) (p .1 .1) _ (put-start .ensures) (write-pes-blocks .ensures))))
+    (start′ .pre .0, ((g .long, (g .few, g .steps)), (g .bytes, room-part (now (a .name)) cs ts (now (a .out)) (p .1 .1 .1 .1) _ (put-start .ensures) (write-pes-blocks .ensures))))
 
 returns : tie.Need-returns
 returns c =
@@ -48,7 +48,7 @@ returns c =
     let cs = commands (now (a .xs)) (now (a .ys)) (now (a .kinds)) in
     let ts = threadsOf (now (a .threads)) in
     let p = start′ .pre .1 .1 in
-    let e = ap (λ (n : ℕ). 22 + n) (blocks-len .ensures .0) ∙ start-long cs ts (a .z) (p .1 .0 .1 .0) in
+    let e = ap (λ (n : ℕ). 22 + n) (blocks-len .ensures .0) ∙ start-long cs ts (a .z) (p .1 .1 .0) in
     put-as (put-put (put-start .ensures) (put-put (write-pes-blocks .ensures) (c .before .before .write-pec .ensures))) (file-as (now (a .name)) cs ts e)
 
 pub put-pes-file-spec : {M : Type 1} → statement M

@@ -1,6 +1,6 @@
 -- By the extension.
 use mathlib.Core.Path.{sym, _∙_}
-use Rattle.rules.specs.Files.{readVerdict, readAnswer, filled, placesTold, runsTold, blocksTold}
+use Rattle.rules.specs.Files.{readVerdict, readAnswer, filled}
 use Rattle.rules.specs.Refusals.{verdict}
 use borrow.Author.Needs.{needs}
 use Rattle.read.proofs.read.Statement.{statement}
@@ -8,10 +8,9 @@ use Rattle.read.proofs.read.Tie as tie
 
 returns : tie.Need-returns
 unfolding readVerdict verdict readAnswer filled
-returns c = let v = sym (c .before .before .extension-of .ensures) ∙ c .enum-told .given .1 in (rw v, (rw v, (rw v, rw v)))
+returns c = let v = sym (c .before .before .extension-of .ensures) ∙ c .enum-told .given .1 in record { answered = rw v; places-are = rw v; runs-are = rw v; blocks-are = rw v }
 
 returns-2 : tie.Need-returns-2
-unfolding placesTold runsTold blocksTold
 returns-2 c =
     let read-stitch-file = c .before .before .before .before .before .read-stitch-file in
     let named = c .before .before .before .before .before .before .before .before .before .before .named in

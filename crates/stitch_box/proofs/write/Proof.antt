@@ -1,6 +1,6 @@
 -- By the extension.
 use mathlib.Core.Path.{sym, _∙_}
-use Rattle.rules.specs.Files.{writeVerdict, writeAnswer, filled, fileTold}
+use Rattle.rules.specs.Files.{writeVerdict, writeAnswer, filled}
 use Rattle.rules.specs.Refusals.{verdict}
 use borrow.Author.Needs.{needs}
 use Rattle.stitch_box.proofs.write.Statement.{statement}
@@ -11,7 +11,6 @@ unfolding writeVerdict verdict writeAnswer filled
 returns c = let v = sym (c .before .before .extension-of .ensures) ∙ c .enum-told .given .1 in record { answered = rw v; stored = rw v }
 
 returns-2 : tie.Need-returns-2
-unfolding fileTold
 returns-2 c =
     let named = c .before .before .before .before .before .named in
     let extension-of = c .before .before .before .before .before .before .before .extension-of in

@@ -1,43 +1,31 @@
--- By the format.
+-- By the format. EXP and JEF hold no name.
 use Rattle.rules.specs.Files.{fileOf, fileTold, writeVerdict}
 use borrow.Author.Needs.{needs}
 use Rattle.stitch_box.proofs.write_stitch_file.Statement.{statement}
 use Rattle.stitch_box.proofs.write_stitch_file.Tie as tie
 
 returns : tie.Need-returns
-unfolding writeVerdict fileOf fileTold
-returns c =
-    let e = c .before .before .before .before .enum-told .given .1 in
-    let w = c .before .before .dst-from-stream .ensures in
-    record { answered = rw e (w .0); stored = rw e (w .1) }
+returns c = rw (c .before .before .before .before .enum-told .given .1) (c .before .before .dst-from-stream .ensures)
 
 returns-2 : tie.Need-returns-2
 unfolding writeVerdict fileOf fileTold
 returns-2 c =
     let e = c .before .before .before .before .enum-told2 .given .1 in
     let w = c .before .before .write-exp .ensures in
-    record { answered = rw e (w .0); stored = rw e (w .1) }
+    record { answered = rw e (w .answered); stored = rw e (w .stored) }
 
 returns-3 : tie.Need-returns-3
 unfolding writeVerdict fileOf fileTold
 returns-3 c =
     let e = c .before .before .before .before .enum-told3 .given .1 in
     let w = c .before .before .write-jef .ensures in
-    record { answered = rw e (w .0); stored = rw e (w .1) }
+    record { answered = rw e (w .answered); stored = rw e (w .stored) }
 
 returns-4 : tie.Need-returns-4
-unfolding writeVerdict fileOf fileTold
-returns-4 c =
-    let e = c .before .before .before .before .enum-told4 .given .1 in
-    let w = c .before .before .write-pec-file .ensures in
-    record { answered = rw e (w .0); stored = rw e (w .1) }
+returns-4 c = rw (c .before .before .before .before .enum-told4 .given .1) (c .before .before .write-pec-file .ensures)
 
 returns-5 : tie.Need-returns-5
-unfolding writeVerdict fileOf fileTold
-returns-5 c =
-    let e = c .before .before .before .before .enum-told5 .given .1 in
-    let w = c .before .before .pes-from-stream .ensures in
-    record { answered = rw e (w .0); stored = rw e (w .1) }
+returns-5 c = rw (c .before .before .before .before .enum-told5 .given .1) (c .before .before .pes-from-stream .ensures)
 
 pub write-stitch-file-spec : {M : Type 1} → statement M
 write-stitch-file-spec =
