@@ -39,7 +39,7 @@ fn main() {
     }
     for name in STANDINS {
         lay(
-            &home.join("src/standins").join(name),
+            &home.join("src/oracle/standins/formats").join(name),
             &modules.join("formats").join(name),
         );
     }

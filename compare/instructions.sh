@@ -1,6 +1,7 @@
 #!/usr/bin/env bash
 # Instructions per stitch of the published Rust and of the port, by callgrind: only the calls themselves are counted.
-# PROGRAM is the built comparison, target/release/compare unless told. Prints a table; some minutes.
+# PROGRAM is the built comparison, target/release/compare unless told; DESIGNS names the designs, plain and mix unless told.
+# Prints a table; some minutes.
 cd "$(dirname "$0")" || exit 2
 program=${PROGRAM:-target/release/compare}
 

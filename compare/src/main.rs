@@ -1,6 +1,9 @@
 //! Commands of the comparison; see README.md.
 
-use compare::{against, answers, bench, layout, many, once, port, samples, written};
+use compare::bench::{hostile, one_call};
+use compare::inputs::samples;
+use compare::replay::{answers, reads, runs_layout, writes};
+use compare::{against, bench, port};
 use std::env;
 use std::ffi::OsString;
 use std::io;
@@ -45,22 +48,22 @@ fn main() -> ExitCode {
 
 fn show(ext: &OsString, file: &OsString) -> io::Result<bool> {
     let bytes = std::fs::read(file)?;
-    print!("{}", layout::runs(ext.as_encoded_bytes(), &bytes));
+    print!("{}", runs_layout::runs(ext.as_encoded_bytes(), &bytes));
     Ok(true)
 }
 
 fn reads(count: &OsString, seed: &OsString, folder: &OsString) -> io::Result<bool> {
     let (count, seed) = (number(count)?, number(seed)?);
-    many::write(count as usize, seed, Path::new(folder)).map(|()| true)
+    reads::write(count as usize, seed, Path::new(folder)).map(|()| true)
 }
 
 fn writes(count: &OsString, seed: &OsString, folder: &OsString) -> io::Result<bool> {
     let (count, seed) = (number(count)?, number(seed)?);
-    written::write(count as usize, seed, Path::new(folder)).map(|()| true)
+    writes::write(count as usize, seed, Path::new(folder)).map(|()| true)
 }
 
 fn longs(seed: &OsString, folder: &OsString) -> io::Result<bool> {
-    written::write_long(number(seed)?, Path::new(folder)).map(|()| true)
+    writes::write_long(number(seed)?, Path::new(folder)).map(|()| true)
 }
 
 fn compare(count: &OsString, seed: &OsString, threads: usize) -> io::Result<bool> {
@@ -75,9 +78,11 @@ fn bench(words: &[OsString]) -> io::Result<bool> {
     let rounds = |word: &str| count(word).map(|rounds| rounds.max(1) as usize);
     match words[..] {
         [] => Ok(bench::run(31)),
-        ["hostile"] => Ok(bench::all_hostile(5)),
-        ["hostile", word] => Ok(bench::all_hostile(rounds(word)?)),
-        ["one", design, ext, call, side, word] => once::run(design, ext, call, side, count(word)?),
+        ["hostile"] => Ok(hostile::print_all(5)),
+        ["hostile", word] => Ok(hostile::print_all(rounds(word)?)),
+        ["one", design, ext, call, side, word] => {
+            one_call::run(design, ext, call, side, count(word)?)
+        }
         [word] => Ok(bench::run(rounds(word)?)),
         _ => Err(io::Error::other(USAGE)),
     }

@@ -1,7 +1,8 @@
 //! The port's calls, by the archive for C that `build.rs` links if it is there,
 //! and the published Rust's answers as the read lays them into its buffers.
 
-use crate::oracle::Reading;
+use crate::inputs::lists::List;
+use crate::oracle::{Block, Reading};
 use std::io;
 
 #[cfg(stitch_box)]
@@ -100,7 +101,7 @@ pub struct Lists {
 }
 
 impl Lists {
-    pub fn of(list: &crate::lists::List) -> Lists {
+    pub fn of(list: &List) -> Lists {
         Lists {
             name: list.name.clone(),
             xs: list.cmds.iter().map(|&(x, _, _)| x).collect(),
@@ -293,7 +294,7 @@ impl Cells {
     pub fn of(reading: &Reading) -> Cells {
         let runs = reading.blocks.iter().flat_map(|block| &block.runs);
         let places = runs.clone().flatten().flat_map(|&(x, y)| [x, y]);
-        let record = |block: &crate::oracle::Block| {
+        let record = |block: &Block| {
             let [r, g, b] = block.colour.map(u32::from);
             let colour = 65_536 * r + 256 * g + b;
             [block.number, colour, block.runs.len() as u32]

@@ -1,0 +1,18 @@
+//! What is asked: lists to write, files to read, questions to single functions, and
+//! document 01's samples.
+
+pub mod boundary_lists;
+pub mod faults;
+pub mod faulty_lists;
+pub mod files;
+pub mod hard_files;
+pub mod hard_lists;
+pub mod headers;
+pub mod hostile_files;
+pub mod leaf_questions;
+pub mod lists;
+pub mod long_files;
+pub mod non_ascii;
+pub mod records;
+pub mod samples;
+pub mod thumbnail_designs;
