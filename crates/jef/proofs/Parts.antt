@@ -9,7 +9,6 @@ use Rattle.rules.specs.Lists.{width, height}
 use Rattle.rules.specs.Jef.{pointCount, jefHoop, jefTable, words, jefHeader}
 use Rattle.rules.specs.declared.Cmd.{Cmd}
 use Rattle.rules.specs.declared.Color.{Color}
-use Rattle.laws.specs.Buffers.{Put, put-length}
 use Rattle.laws.specs.Little.{length-little}
 use Rattle.jef.specs.Header.{startText, sizesText}
 use Rattle.jef.proofs.Words.{length-words, length-same}
@@ -48,19 +47,3 @@ module _ (cs : List Cmd) (ts : List Color) where
         length-words es,
         length-same (length es) 0x0D,
       )
-
-  -- the rooms that the parts have in a buffer that has room for the header
-  module _ (d : List ℕ) (room : length (jefHeader cs ts) ≤ length d) where
-    pub room-start : 36 ≤ length d
-    room-start = omega (arith, length-header)
-
-    module _ {d₁ vs : List ℕ} {m : ℕ} (p : Put d d₁ 0 m vs) (e : length vs ≡ 36) where
-      pub room-sizes : m + 80 ≤ length d₁
-      room-sizes = omega (arith, length-header, put-length p)
-
-      module _ {d₂ ws : List ℕ} {n : ℕ} (q : Put d₁ d₂ m n ws) (f : length ws ≡ 80) where
-        pub room-table : n + length (words (jefTable ts)) ≤ length d₂
-        room-table = omega (arith, length-header, put-length p, put-length q, length-words (jefTable ts))
-
-        pub room-kinds : {d₃ : List ℕ} {l k : ℕ} → Put d₂ d₃ n l (words (jefTable ts)) → k ≡ length (jefTable ts) → l + 4 * k ≤ length d₃
-        room-kinds r g = omega (arith, length-header, put-length p, put-length q, put-length r, length-words (jefTable ts))

@@ -3,6 +3,7 @@
 use emit::put2;
 use formats::list_len;
 use formats::op_of;
+use geom::P;
 use pec_cmd::cmd_len;
 use pec_cmd::is_short;
 use pec_cmd::low7;
@@ -12,10 +13,11 @@ use pec_cmd::put_steps;
 use pec_cmd::start;
 use pec_cmd::step;
 use pec_cmd::steps_len;
+use rules::Cmd;
 ghost use mathlib.Core.Path.{_≡_};
 ghost use mathlib.Core.Bool.{true, false, not, _&&_};
 ghost use Prim.Native.Nat.{_+_, _-_, _*_, _<_, _≤_};
-ghost use lib.IntN.{pos};
+ghost use lib.IntN.{pos, _-ℤ_};
 ghost use lib.Dec.{eqb};
 ghost use lib.ListN.{length};
 ghost use Rattle.rules.specs.Lists.{commands};
@@ -24,6 +26,8 @@ ghost use Rattle.rules.specs.Refusals.{stepTooLong};
 ghost use Rattle.rules.specs.Promises.{was};
 ghost use Rattle.rules.specs.declared.Format.the-variants.{Pec};
 ghost use Rattle.laws.specs.Buffers.{Puts};
+ghost use Rattle.laws.specs.Listing.{cmdAt};
+ghost use Rattle.pec_cmd.specs.States.{Step};
 ghost use Rattle.pec.specs.Shorts.{ShortAt, Shorts, pairs};
 
 // A stitch that follows a stitch or a colour change: no stitch 00 00 goes before it.
@@ -125,6 +129,29 @@ fn one_less(wait: usize) -> usize
     wait - 1
 }
 
+// The command at i.
+fn cmd_at(xs: &[i32], ys: &[i32], kinds: &[u8], i: usize) -> Cmd
+    requires { ⌜ i < length (commands (now xs) (now ys) (now kinds)) ⌝ }
+    ensures { λ r. ⌜ r ≡ cmdAt (was xs) (was ys) (was kinds) i ⌝ }
+{
+    Cmd {
+        x: xs[i],
+        y: ys[i],
+        kind: kinds[i],
+    }
+}
+
+// The step from one command to another.
+fn step_to(last: Cmd, c: Cmd) -> P
+    requires { ⌜ Step (c .x -ℤ last .x) (c .y -ℤ last .y) ⌝ }
+    ensures { λ r. ⌜ (r .x ≡ c .x -ℤ last .x) × (r .y ≡ c .y -ℤ last .y) ⌝ }
+{
+    P {
+        x: step(last.x, c.x),
+        y: step(last.y, c.y),
+    }
+}
+
 // The bytes that all commands take.
 pub fn pec_len(xs: &[i32], ys: &[i32], kinds: &[u8]) -> usize
     requires { ⌜ (length (now kinds) ≤ 65535) × (stepTooLong Pec (commands (now xs) (now ys) (now kinds)) ≡ false) ⌝ }
@@ -132,8 +159,11 @@ pub fn pec_len(xs: &[i32], ys: &[i32], kinds: &[u8]) -> usize
 {
     let n = list_len(xs, ys, kinds);
     let mut s = start();
-    let mut x: i32 = 0;
-    let mut y: i32 = 0;
+    let mut last = Cmd {
+        x: 0,
+        y: 0,
+        kind: 0,
+    };
     let mut total = 0;
     let mut i = 0;
     let mut wait = 0;
@@ -141,27 +171,22 @@ pub fn pec_len(xs: &[i32], ys: &[i32], kinds: &[u8]) -> usize
         if looks(s.jumped, wait) {
             let end = short_till(xs, ys, kinds, i);
             total += 2 * (end - i);
-            x = xs[end - 1];
-            y = ys[end - 1];
+            last = cmd_at(xs, ys, kinds, end - 1);
             i = end;
             wait = 8;
             continue;
         }
         wait = one_less(wait);
-        let kind = kinds[i];
-        let nx = xs[i];
-        let ny = ys[i];
-        let dx = step(x, nx);
-        let dy = step(y, ny);
-        x = nx;
-        y = ny;
+        let c = cmd_at(xs, ys, kinds, i);
+        let by = step_to(last, c);
+        last = c;
         i += 1;
-        if is_going(kind, s.jumped) {
-            total += steps_len(dx, dy);
+        if is_going(c.kind, s.jumped) {
+            total += steps_len(by.x, by.y);
             continue;
         }
-        let op = op_of(kind);
-        total += cmd_len(s, op, dx, dy);
+        let op = op_of(c.kind);
+        total += cmd_len(s, op, by.x, by.y);
         s = next(s, op);
     }
     total
@@ -175,8 +200,11 @@ pub fn pec_encode(xs: &[i32], ys: &[i32], kinds: &[u8], out: &mut [u8], at: usiz
 {
     let n = list_len(xs, ys, kinds);
     let mut s = start();
-    let mut x: i32 = 0;
-    let mut y: i32 = 0;
+    let mut last = Cmd {
+        x: 0,
+        y: 0,
+        kind: 0,
+    };
     let mut to = at;
     let mut i = 0;
     let mut wait = 0;
@@ -184,27 +212,22 @@ pub fn pec_encode(xs: &[i32], ys: &[i32], kinds: &[u8], out: &mut [u8], at: usiz
         if looks(s.jumped, wait) {
             let end = short_till(xs, ys, kinds, i);
             to = put_shorts(xs, ys, kinds, i, end, out, to);
-            x = xs[end - 1];
-            y = ys[end - 1];
+            last = cmd_at(xs, ys, kinds, end - 1);
             i = end;
             wait = 8;
             continue;
         }
         wait = one_less(wait);
-        let kind = kinds[i];
-        let nx = xs[i];
-        let ny = ys[i];
-        let dx = step(x, nx);
-        let dy = step(y, ny);
-        x = nx;
-        y = ny;
+        let c = cmd_at(xs, ys, kinds, i);
+        let by = step_to(last, c);
+        last = c;
         i += 1;
-        if is_going(kind, s.jumped) {
-            to = put_steps(dx, dy, out, to);
+        if is_going(c.kind, s.jumped) {
+            to = put_steps(by.x, by.y, out, to);
             continue;
         }
-        let op = op_of(kind);
-        to = put_cmd(s, op, dx, dy, out, to);
+        let op = op_of(c.kind);
+        to = put_cmd(s, op, by.x, by.y, out, to);
         s = next(s, op);
     }
     to

@@ -22,15 +22,14 @@ ghost use Prim.Native.Nat.{_+_, _-_, _*_, _<_, _≤_};
 ghost use lib.IntN.{pos};
 ghost use lib.ListN.{length, drop, getD};
 ghost use Rattle.rules.specs.Lists.{opOf, commands, threadsOf};
-ghost use Rattle.rules.specs.Pes.{runLength, pesStart, pesCmd, pesSections, colorLog, shorts};
+ghost use Rattle.rules.specs.Pes.{runLength};
 ghost use Rattle.rules.specs.Promises.{was};
 ghost use Rattle.rules.specs.declared.Op.the-variants.{Stitch, Jump};
 ghost use Rattle.laws.specs.Buffers.{Puts};
-ghost use Rattle.laws.specs.Listing.{cmdAt};
 ghost use Rattle.pec_threads.specs.Codes.{Coded};
-ghost use Rattle.pes_section_cmd.specs.States.{stateOf, Near};
+ghost use Rattle.pes_section_cmd.specs.States.{Near};
 ghost use Rattle.pes_sections.specs.Alike.{Alike, points};
-ghost use Rattle.pes_sections.specs.States.{placed, measures};
+ghost use Rattle.pes_sections.specs.States.{placed, measures, cmdText, sectionsText, logText};
 
 // Whether the eight commands from i on are of one kind.
 fn are_alike(kinds: &[u8], kind: u8, i: usize) -> bool
@@ -118,8 +117,8 @@ fn put_stitch(
 ) -> usize
     requires { ⌜ i < length (commands (now xs) (now ys) (now kinds)) ⌝ }
     requires { ⌜ Near left bottom (getD (now xs) i (pos 0)) (getD (now ys) i (pos 0)) ⌝ }
-    requires { ⌜ at + length (pesCmd left bottom (stateOf s) new Stitch (cmdAt (now xs) (now ys) (now kinds) i) (drop i (commands (now xs) (now ys) (now kinds)))) ≤ length (now out) ⌝ }
-    ensures { λ r. ⌜ Puts out at r (pesCmd left bottom (stateOf s) new Stitch (cmdAt (was xs) (was ys) (was kinds) i) (drop i (commands (was xs) (was ys) (was kinds)))) ⌝ }
+    requires { ⌜ at + length (cmdText left bottom s new Stitch (now xs) (now ys) (now kinds) i) ≤ length (now out) ⌝ }
+    ensures { λ r. ⌜ Puts out at r (cmdText left bottom s new Stitch (was xs) (was ys) (was kinds) i) ⌝ }
 {
     let x = xs[i];
     let y = ys[i];
@@ -146,8 +145,8 @@ fn put_jump(
 ) -> usize
     requires { ⌜ i < length (commands (now xs) (now ys) (now kinds)) ⌝ }
     requires { ⌜ (Near left bottom (s .x) (s .y)) × (placed left bottom (commands (now xs) (now ys) (now kinds))) ⌝ }
-    requires { ⌜ at + length (pesCmd left bottom (stateOf s) new Jump (cmdAt (now xs) (now ys) (now kinds) i) (drop i (commands (now xs) (now ys) (now kinds)))) ≤ length (now out) ⌝ }
-    ensures { λ r. ⌜ Puts out at r (pesCmd left bottom (stateOf s) new Jump (cmdAt (was xs) (was ys) (was kinds) i) (drop i (commands (was xs) (was ys) (was kinds)))) ⌝ }
+    requires { ⌜ at + length (cmdText left bottom s new Jump (now xs) (now ys) (now kinds) i) ≤ length (now out) ⌝ }
+    ensures { λ r. ⌜ Puts out at r (cmdText left bottom s new Jump (was xs) (was ys) (was kinds) i) ⌝ }
 {
     if !new {
         return at;
@@ -173,8 +172,8 @@ fn put_cmd(
 ) -> usize
     requires { ⌜ i < length (commands (now xs) (now ys) (now kinds)) ⌝ }
     requires { ⌜ (Near left bottom (s .x) (s .y)) × (placed left bottom (commands (now xs) (now ys) (now kinds))) ⌝ }
-    requires { ⌜ at + length (pesCmd left bottom (stateOf s) new (opOf (getD (now kinds) i 0)) (cmdAt (now xs) (now ys) (now kinds) i) (drop i (commands (now xs) (now ys) (now kinds)))) ≤ length (now out) ⌝ }
-    ensures { λ r. ⌜ Puts out at r (pesCmd left bottom (stateOf s) new (opOf (getD (was kinds) i 0)) (cmdAt (was xs) (was ys) (was kinds) i) (drop i (commands (was xs) (was ys) (was kinds)))) ⌝ }
+    requires { ⌜ at + length (cmdText left bottom s new (opOf (getD (now kinds) i 0)) (now xs) (now ys) (now kinds) i) ≤ length (now out) ⌝ }
+    ensures { λ r. ⌜ Puts out at r (cmdText left bottom s new (opOf (getD (was kinds) i 0)) (was xs) (was ys) (was kinds) i) ⌝ }
 {
     match op_of(kinds[i]) {
         Op::Stitch => put_stitch(left, bottom, s, new, xs, ys, kinds, i, out, at),
@@ -197,8 +196,8 @@ pub fn put_sections(
 ) -> usize
     requires { ⌜ Coded (threadsOf (now threads)) (now codes) ⌝ }
     requires { ⌜ (length (now kinds) ≤ 65535) × ((Near left bottom (pos 0) (pos 0)) × (placed left bottom (commands (now xs) (now ys) (now kinds)))) ⌝ }
-    requires { ⌜ at + length (pesSections left bottom (threadsOf (now threads)) (pesStart (threadsOf (now threads))) (commands (now xs) (now ys) (now kinds))) ≤ length (now out) ⌝ }
-    ensures { λ r. ⌜ Puts out at r (pesSections left bottom (threadsOf (was threads)) (pesStart (threadsOf (was threads))) (commands (was xs) (was ys) (was kinds))) ⌝ }
+    requires { ⌜ at + length (sectionsText left bottom (now threads) (now xs) (now ys) (now kinds)) ≤ length (now out) ⌝ }
+    ensures { λ r. ⌜ Puts out at r (sectionsText left bottom (was threads) (was xs) (was ys) (was kinds)) ⌝ }
 {
     let n = list_len(xs, ys, kinds);
     let mut s = start(codes, threads);
@@ -274,8 +273,8 @@ pub fn put_log(
 ) -> usize
     requires { ⌜ Coded (threadsOf (now threads)) (now codes) ⌝ }
     requires { ⌜ length (now kinds) ≤ 65535 ⌝ }
-    requires { ⌜ at + length (shorts (colorLog (threadsOf (now threads)) 65 (pesStart (threadsOf (now threads))) (commands (now xs) (now ys) (now kinds)))) ≤ length (now out) ⌝ }
-    ensures { λ r. ⌜ Puts out at r (shorts (colorLog (threadsOf (was threads)) 65 (pesStart (threadsOf (was threads))) (commands (was xs) (was ys) (was kinds)))) ⌝ }
+    requires { ⌜ at + length (logText (now threads) (now xs) (now ys) (now kinds)) ≤ length (now out) ⌝ }
+    ensures { λ r. ⌜ Puts out at r (logText (was threads) (was xs) (was ys) (was kinds)) ⌝ }
 {
     let n = list_len(xs, ys, kinds);
     let mut s = start(codes, threads);

@@ -2,3 +2,4 @@
 pub mod Turns
 pub mod Told
 pub mod Arrays
+pub mod Walking

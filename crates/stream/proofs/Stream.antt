@@ -97,10 +97,10 @@ module _ {f : Stream} {xs ys : List ℤ} {ks : List ℕ} {i : ℕ} {x y : ℤ} (
   first : Turn f xs ys ks i x y (bytesAt f xs ys ks i x y) (i + 1) (getD xs i (pos 0)) (getD ys i (pos 0))
   first = one-turn e (omega arith)
 
-  pub next-step : StepAt f xs ys (i + 1) (getD xs i (pos 0)) (getD ys i (pos 0))
+  next-step : StepAt f xs ys (i + 1) (getD xs i (pos 0)) (getD ys i (pos 0))
   next-step = one-step (first .after) l
 
-  pub two-stitches : getD ks i 0 + getD ks (i + 1) 0 ≡ 0
+  two-stitches : getD ks i 0 + getD ks (i + 1) 0 ≡ 0
       → (let nx = getD xs i (pos 0) in
       let ny = getD ys i (pos 0) in
       let mx = getD xs (i + 1) (pos 0) in
@@ -111,6 +111,31 @@ module _ {f : Stream} {xs ys : List ℤ} {ks : List ℕ} {i : ℕ} {x y : ℤ} (
       let p : getD ks i 0 ≡ 0 = omega arith in
       let q : getD ks (i + 1) 0 ≡ 0 = omega arith in
       rw (p, q) at (two-turns first (one-turn (first .after) l))
+
+-- ---- the same with places as the code reads them, through their bits, which hold them
+
+abbrev pub readAt : List ℤ → ℕ → ℤ
+readAt zs i = toZ w32 (ofZ w32 (getD zs i (pos 0)))
+
+abbrev Held : List ℤ → ℕ → Type 0
+Held zs i = mag (getD zs i (pos 0)) < 2 ^ hbits w32
+
+pub one-read : {f : Stream} {xs ys : List ℤ} {ks : List ℕ} {i : ℕ} {x y : ℤ} → Near f xs ys ks i x y → i < length (commands xs ys ks) → Held xs i → Held ys i
+    → Turn f xs ys ks i x y (bytesAt f xs ys ks i x y) (i + 1) (readAt xs i) (readAt ys i)
+one-read {xs = xs} {ys = ys} {i = i} e l p q = rw (ret w32 (getD xs i (pos 0)) p, ret w32 (getD ys i (pos 0)) q) (one-turn e l)
+
+-- two stitches: their steps, and their turn
+pub record Two (f : Stream) (xs ys : List ℤ) (ks : List ℕ) (i : ℕ) (x y nx ny mx my : ℤ) : Type 0 where
+  pub first : Step f (nx -ℤ x) (ny -ℤ y)
+  pub second : Step f (mx -ℤ nx) (my -ℤ ny)
+  pub turn : Turn f xs ys ks i x y (cmdOf f Stitch (nx -ℤ x) (ny -ℤ y) ++ cmdOf f Stitch (mx -ℤ nx) (my -ℤ ny)) (i + 1 + 1) mx my
+
+pub two-read : {f : Stream} {xs ys : List ℤ} {ks : List ℕ} {i : ℕ} {x y : ℤ} → Near f xs ys ks i x y → i + 1 < length (commands xs ys ks)
+    → getD ks i 0 + getD ks (i + 1) 0 ≡ 0 → Held xs i → Held ys i → Held xs (i + 1) → Held ys (i + 1)
+    → Two f xs ys ks i x y (readAt xs i) (readAt ys i) (readAt xs (i + 1)) (readAt ys (i + 1))
+two-read {xs = xs} {ys = ys} {i = i} e l z p q r s =
+    rw (ret w32 (getD xs i (pos 0)) p, ret w32 (getD ys i (pos 0)) q, ret w32 (getD xs (i + 1) (pos 0)) r, ret w32 (getD ys (i + 1) (pos 0)) s)
+    record { first = one-step e (omega arith); second = next-step e l; turn = two-stitches e l z }
 
 -- ---- the invariant of a loop
 

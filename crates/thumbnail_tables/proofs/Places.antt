@@ -21,7 +21,7 @@ use Rattle.rules.specs.Thumbnails.{floorOf, within, pixelAt}
 use Rattle.thumbnail_scale.specs.Places.{scaledAt}
 use Rattle.laws.specs.Ints.{ints, abs-is, abs-le, parts, add-law, sub-law, one0}
 use Rattle.laws.specs.Listing.{commands-at}
-use Rattle.thumbnail_tables.specs.Cells.{cellOf, Filled, From, Framed}
+use Rattle.thumbnail_tables.specs.Cells.{cellOf, Filled, From, Framed, Inside, AllInside}
 use Rattle.thumbnail_tables.proofs.Between.{between-pixels}
 
 -- a test that does not fail
@@ -72,15 +72,28 @@ pub steps : (z : ℤ) (i k : ℕ) → i ≤ k → z +ℤ pos i +ℤ pos (k - i) 
 steps z i k h = parts _ _ (omega (arith, add-law (z +ℤ pos i) (pos (k - i)), add-law z (pos i), add-law z (pos k)))
 
 -- what `index_of` asks, and where its answer lies
-pub index-asks : (from z : ℤ) (n : ℕ) {l u : ℤ} → l ≡ from → u ≡ z → natAbs from ≤ 65536 → n ≤ 32768 → From from n z → (natAbs l ≤ 65536) × ((l ≤ℤ u) × (u <ℤ (l +ℤ pos 32768)))
-index-asks from z n e f h k p = rw (e, f) (h, (p .start, omega (ints, p .end, add-law from (pos n), add-law from (pos 32768))))
+pub index-asks : {from z l u : ℤ} {n : ℕ} → l ≡ from → u ≡ z → natAbs from ≤ 65536 → n ≤ 32768 → From from n z → (natAbs l ≤ 65536) × ((l ≤ℤ u) × (u <ℤ (l +ℤ pos 32768)))
+index-asks {from} {n = n} e f h k p = rw (e, f) (h, (p .start, omega (ints, p .end, add-law from (pos n), add-law from (pos 32768))))
 
-pub at-index : (from z : ℤ) (n : ℕ) {l u : ℤ} {r : ℕ} → l ≡ from → u ≡ z → r ≡ natAbs (u -ℤ l) → From from n z → r < n
-at-index from z n e f g p = rw (g, e, f) (index-lt from z n (p .start) (p .end))
+pub at-index : {from z l u : ℤ} {n r : ℕ} → l ≡ from → u ≡ z → r ≡ natAbs (u -ℤ l) → From from n z → r < n
+at-index {from} {z} {n = n} e f g p = rw (g, e, f) (index-lt from z n (p .start) (p .end))
 
 pub framed-at : (left top : ℤ) (w h : ℕ) (xs ys : List ℤ) (ks : List ℕ) (i : ℕ) → Framed left w top h (commands xs ys ks) → i < length (commands xs ys ks) → From left w
     (getD xs i (pos 0)) × From top h (getD ys i (pos 0))
 framed-at left top w h xs ys ks i f l = rw (commands-at xs ys ks i l) at (f i l)
+
+-- two indexes into the tables, and the cells there
+pub record Seen (columns rows : List ℕ) (x y : ℕ) : Type 0 where
+  pub across : x < 32768
+  pub down : y < 32768
+  pub column : x < length columns
+  pub row : y < length rows
+  pub cells : Inside (getD columns x 0) (getD rows y 0)
+
+pub seen : {columns rows : List ℕ} (w h : ℕ) {x y : ℕ} → AllInside w h columns rows → w ≤ 32768 → h ≤ 32768 → x < w → y < h → Seen columns rows x y
+seen w h {x} {y} all l m a b =
+    let t = all x y a b in
+    record { across = omega arith; down = omega arith; column = t .0 .0; row = t .0 .1; cells = t .1 }
 
 -- ---- a stretch
 

@@ -1,6 +1,6 @@
 -- `near_bounds` meets its contract. The invariant: the four numbers hold the places before i. Assumes nothing.
 use Prim.Native.Nat.{_<_, _-_}
-use mathlib.Core.Path.{_≡_}
+use mathlib.Core.Path.{_≡_, refl}
 use mathlib.Core.List.{[]}
 use denote.Ref.{now}
 use lib.IntN.{pos}
@@ -9,7 +9,7 @@ use mir.Syntax.{w16, w32}
 use Rattle.rules.specs.Lists.{minZ, maxZ, least, greatest, minX, minY, maxX, maxY, commands}
 use mir.Facts.{toZ-ofZ}
 use Rattle.laws.specs.Ints.{ret, fits-pos}
-use Rattle.laws.specs.Listing.{list-end, cmdAt, length-commands, commands-more}
+use Rattle.laws.specs.Listing.{list-end, cmdAt, Listed, listed, commands-more}
 use Rattle.geom.specs.Frames.{boundsOf}
 use native.Mathlib.Omega.{arith}
 use borrow.Author.Needs.{needs}
@@ -45,19 +45,12 @@ loop-holds c =
       framing = framing-start 32767 (commands (now (a .xs)) (now (a .ys)) (now (a .kinds)));
     }
 
--- the turn's index is that of a command
-inside : (c : tie.In-loop Inv-loop μ-loop) → c .before .loop .i < length
-    (commands (now ((c .before .before .before .before .before .args) .xs)) (now ((c .before .before .before .before .before .args) .ys))
-    (now ((c .before .before .before .before .before .args) .kinds)))
+-- the turn's index is that of a command, within the three slices
+inside : (c : tie.In-loop Inv-loop μ-loop) → (let a = c .before .before .before .before .before .args in c .before .loop .i < length (commands (now (a .xs)) (now (a .ys)) (now (a .kinds))))
 inside c = omega (arith, c .before .loop .inv .whole)
 
-shared-slice-copy-out-x : tie.Need-shared-slice-copy-out-x Inv-loop μ-loop
-shared-slice-copy-out-x c =
-    let start = c .before .before .before .before .before in
-    omega (arith, inside c, length-commands (now ((start .args) .xs)) (now ((start .args) .ys)) (now ((start .args) .kinds)))
-
-mul-x : tie.Need-mul-x Inv-loop μ-loop
-mul-x c = let h = shared-slice-copy-out-x c in omega (arith, c .before .before .before .before .before .good)
+here : (c : tie.In-loop Inv-loop μ-loop) → (let a = c .before .before .before .before .before .args in Listed (now (a .xs)) (now (a .ys)) (now (a .kinds)) (c .before .loop .i))
+here c = listed refl (inside c)
 
 cast-x : tie.Need-cast-x Inv-loop μ-loop
 cast-x c =
@@ -65,14 +58,6 @@ cast-x c =
     let a = start .args in
     let i = c .before .before .loop .i in
     rw (ret w32 (getD (now (a .xs)) i (pos 0)) (c .x .given)) (near-x (now (a .xs)) (now (a .ys)) (now (a .kinds)) (start .pre) i (inside (c .before)))
-
-shared-slice-copy-out-y : tie.Need-shared-slice-copy-out-y Inv-loop μ-loop
-shared-slice-copy-out-y c =
-    let start = c .before .before .before .before .before .before in
-    omega (arith, inside (c .before), length-commands (now ((start .args) .xs)) (now ((start .args) .ys)) (now ((start .args) .kinds)))
-
-mul-y : tie.Need-mul-y Inv-loop μ-loop
-mul-y c = let h = shared-slice-copy-out-y c in omega (arith, c .before .before .before .before .before .before .good)
 
 cast-y : tie.Need-cast-y Inv-loop μ-loop
 cast-y c =
@@ -138,8 +123,9 @@ pub near-bounds-spec : {M : Type 1} → statement M
 near-bounds-spec =
     tie.close
     (tie.spec
-    Inv-loop μ-loop (λ c κs. search needs) (λ c κs. search needs) (λ c κs. search needs) (λ c κs. search needs) returns loop-holds mul-x
-    shared-slice-copy-out-x cast-x mul-y shared-slice-copy-out-y cast-y (λ c κs. search needs) (λ c κs. search needs) (λ c κs. search needs)
-    (λ c κs. search needs) (λ c. omega arith) (λ c. omega arith) loop-again (λ c. wider (c .before .loop .inv .left))
-    (λ c. wider (c .before .loop .inv .top)) (λ c κs. search needs) (λ c. wider (c .before .before .loop .inv .right))
+    Inv-loop μ-loop (λ c κs. search needs) (λ c κs. search needs) (λ c κs. search needs) (λ c κs. search needs) returns loop-holds
+    (λ c. omega (arith, here c, c .before .before .before .before .before .good)) (λ c. here c .across) cast-x
+    (λ c. omega (arith, here (c .before), c .before .before .before .before .before .before .good)) (λ c. here (c .before) .down) cast-y
+    (λ c κs. search needs) (λ c κs. search needs) (λ c κs. search needs) (λ c κs. search needs) (λ c. omega arith) (λ c. omega arith) loop-again
+    (λ c. wider (c .before .loop .inv .left)) (λ c. wider (c .before .loop .inv .top)) (λ c κs. search needs) (λ c. wider (c .before .before .loop .inv .right))
     (λ c. wider (c .before .before .loop .inv .bottom)) (λ c κs. search needs) returns-2)

@@ -1,6 +1,6 @@
 -- `stream_bounds` meets its contract. The invariant: the bounds hold the places before i. Assumes nothing.
 use Prim.Native.Nat.{_<_, _≤_, _-_}
-use mathlib.Core.Path.{_≡_}
+use mathlib.Core.Path.{_≡_, refl}
 use mathlib.Core.List.{[]}
 use borrow.Author.Count.{below-none, below-more}
 use denote.Ref.{now}
@@ -9,7 +9,7 @@ use lib.ListN.{getD, length, drop}
 use mir.Syntax.{w32}
 use Rattle.rules.specs.Lists.{minZ, maxZ, least, greatest, minX, minY, maxX, maxY, commands}
 use Rattle.laws.specs.Ints.{ret}
-use Rattle.laws.specs.Listing.{list-end, cmdAt, length-commands, commands-more}
+use Rattle.laws.specs.Listing.{list-end, cmdAt, Listed, listed, commands-more}
 use Rattle.geom.specs.Frames.{boundsOf}
 use native.Mathlib.Omega.{arith}
 use borrow.Author.Needs.{needs}
@@ -36,29 +36,12 @@ loop-holds c =
     let a = c .before .before .before .before .args in
     (omega arith, (rw (c .empty2 .ensures) (framing-start 2147483647 (commands (now (a .xs)) (now (a .ys)) (now (a .kinds)))), (below-none _, below-none _)))
 
--- the turn's index is that of a command
-inside : (c : tie.In-loop Inv-loop μ-loop) → c .before .loop .i < length
-    (commands (now ((c .before .before .before .before .before .before .args) .xs)) (now ((c .before .before .before .before .before .before .args) .ys))
-    (now ((c .before .before .before .before .before .before .args) .kinds)))
-inside c =
-    let list-len = c .before .before .before .before .list-len in
-    omega (arith, list-len .ensures)
+-- the turn's index is that of a command, within the three slices
+inside : (c : tie.In-loop Inv-loop μ-loop) → (let a = c .before .before .before .before .before .before .args in c .before .loop .i < length (commands (now (a .xs)) (now (a .ys)) (now (a .kinds))))
+inside c = omega (arith, c .before .before .before .before .list-len .ensures)
 
-shared-slice-copy-out-new : tie.Need-shared-slice-copy-out-new Inv-loop μ-loop
-shared-slice-copy-out-new c =
-    let start = c .before .before .before .before .before .before in
-    omega (arith, inside c, length-commands (now ((start .args) .xs)) (now ((start .args) .ys)) (now ((start .args) .kinds)))
-
-mul-new : tie.Need-mul-new Inv-loop μ-loop
-mul-new c = let h = shared-slice-copy-out-new c in omega (arith, c .before .before .before .before .before .before .good)
-
-shared-slice-copy-out-new-2 : tie.Need-shared-slice-copy-out-new-2 Inv-loop μ-loop
-shared-slice-copy-out-new-2 c =
-    let start = c .before .before .before .before .before .before .before in
-    omega (arith, inside (c .before), length-commands (now ((start .args) .xs)) (now ((start .args) .ys)) (now ((start .args) .kinds)))
-
-mul-new-2 : tie.Need-mul-new-2 Inv-loop μ-loop
-mul-new-2 c = let h = shared-slice-copy-out-new-2 c in omega (arith, c .before .before .before .before .before .before .before .good)
+here : (c : tie.In-loop Inv-loop μ-loop) → (let a = c .before .before .before .before .before .before .args in Listed (now (a .xs)) (now (a .ys)) (now (a .kinds)) (c .before .loop .i))
+here c = listed refl (inside c)
 
 loop-again : tie.Need-loop-again Inv-loop μ-loop
 loop-again c =
@@ -93,6 +76,7 @@ pub stream-bounds-spec : {M : Type 1} → statement M
 stream-bounds-spec =
     tie.close
     (tie.spec
-    Inv-loop μ-loop (λ c κs. search needs) (λ c κs. search needs) (λ c κs. search needs) (λ c κs. search needs) returns
-    (λ c κs. search needs) loop-holds mul-new shared-slice-copy-out-new mul-new-2 shared-slice-copy-out-new-2 (λ c κs. search needs)
-    (λ c κs. search needs) (λ c. omega arith) (λ c. omega arith) loop-again returns-2)
+    Inv-loop μ-loop (λ c κs. search needs) (λ c κs. search needs) (λ c κs. search needs) (λ c κs. search needs) returns (λ c κs. search needs) loop-holds
+    (λ c. omega (arith, here c, c .before .before .before .before .before .before .good)) (λ c. here c .across)
+    (λ c. omega (arith, here (c .before), c .before .before .before .before .before .before .before .good)) (λ c. here (c .before) .down)
+    (λ c κs. search needs) (λ c κs. search needs) (λ c. omega arith) (λ c. omega arith) loop-again returns-2)

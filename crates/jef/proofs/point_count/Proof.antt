@@ -39,9 +39,6 @@ loop-holds c =
     let a = c .before .before .args in
     (c .list-len .ensures, (omega (arith, c .list-len .ensures, length-commands (now (a .xs)) (now (a .ys)) (now (a .kinds))), (omega arith, omega arith)))
 
-add-total : tie.Need-add-total Inv-loop μ-loop
-add-total c = omega (arith, c .points-in .ensures .1, c .before .before .before .before .before .before .before .pre)
-
 loop-again : tie.Need-loop-again Inv-loop μ-loop
 loop-again c =
     let l = c .before .before .before .before .loop in let start = c .before .before .before .before .before .before .before in
@@ -58,5 +55,6 @@ pub point-count-spec : {M : Type 1} → statement M
 point-count-spec =
     tie.close
     (tie.spec
-    Inv-loop μ-loop (λ c κs. tt) loop-holds (λ c. omega arith) (λ c κs. tt) (λ c κs. tt) add-total (λ c. omega arith) (λ c. omega arith)
-    loop-again returns)
+    Inv-loop μ-loop (λ c κs. tt) loop-holds (λ c. omega arith) (λ c κs. tt) (λ c κs. tt)
+    (λ c. omega (arith, c .points-in .ensures .1, c .before .before .before .before .before .before .before .pre)) (λ c. omega arith) (λ c. omega arith) loop-again
+    returns)

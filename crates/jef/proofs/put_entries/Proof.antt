@@ -29,9 +29,6 @@ loop-holds c =
     let a = c .before .before .before .args in
     (omega arith, writing-start (now (a .out)) (a .at) (words (jefEntries First (threadsOf (now (a .threads))))) (c .before .before .before .pre))
 
-add-t11 : tie.Need-add-t11 Inv-loop μ-loop
-add-t11 c = omega (arith, c .before .before .before .before .before .before .before .good)
-
 cast-put-word : tie.Need-cast-put-word Inv-loop μ-loop
 cast-put-word c =
     let s = now (c .before .before .before .before .before .before .before .before .before .before .args .threads) in
@@ -69,6 +66,7 @@ put-entries-spec =
     tie.close
     (tie.spec
     Inv-loop μ-loop (λ c κs. tt) loop-holds (λ c. omega (arith, c .before .before .before .before .good)) (λ c. omega arith)
-    (λ c. omega (arith, c .before .before .before .before .before .before .good)) (λ c. omega arith) add-t11 (λ c. omega arith)
-    (λ c κs. c .before .before .before .before .before .jef-threads .ensures) cast-put-word put-word-requires add-i (λ c. omega arith)
-    loop-again (λ c. c .before .loop .inv .1 .same) returns)
+    (λ c. omega (arith, c .before .before .before .before .before .before .good)) (λ c. omega arith)
+    (λ c. omega (arith, c .before .before .before .before .before .before .before .good)) (λ c. omega arith)
+    (λ c κs. c .before .before .before .before .before .jef-threads .ensures) cast-put-word put-word-requires add-i (λ c. omega arith) loop-again
+    (λ c. c .before .loop .inv .1 .same) returns)

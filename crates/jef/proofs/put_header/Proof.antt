@@ -1,115 +1,99 @@
 -- The parts of the header in a row.
+use Prim.Native.Nat.{_+_, _*_, _≤_}
+use native.Mathlib.Omega.{arith}
 use denote.Ref.{now}
+use lib.ListN.{length}
+use mir.Syntax.{w32}
+use mir.Val.{SFits}
+use Rattle.rules.specs.Jef.{jefTable}
 use Rattle.rules.specs.Lists.{commands, threadsOf}
 use Rattle.laws.specs.Buffers.{put-as, put-put}
 use Rattle.geom.proofs.Sizes.{width-is, height-is}
-use Rattle.jef.proofs.Words.{table-short}
-use Rattle.jef.proofs.Parts.{length-start, length-sizes, header-as, room-start, room-sizes, room-table, room-kinds}
+use Rattle.jef.proofs.Words.{table-short, length-words}
+use Rattle.jef.proofs.Parts.{length-start, length-sizes, header-as, length-header}
+use Rattle.jef.proofs.Far.{Far, far-start, further}
 use borrow.Author.Needs.{needs}
 use Rattle.jef.proofs.put_header.Statement.{statement}
 use Rattle.jef.proofs.put_header.Tie as tie
 
-point-count-requires : tie.Need-point-count-requires
-point-count-requires c κs = c .before .before .before .before .before .before .before .before .before .before .before .pre .0 .0
+-- the header has room in the buffer
+room : (s : tie.Start) → (let a = s .args in 116 + 8 * length (jefTable (threadsOf (now (a .threads)))) ≤ length (now (a .out)))
+room s =
+    let a = s .args in
+    rw (length-header (commands (now (a .xs)) (now (a .ys)) (now (a .kinds))) (threadsOf (now (a .threads)))) at (s .pre .1 .1)
 
 put-start-requires : tie.Need-put-start-requires
 put-start-requires c κs =
-    let table-len = c .before .before .before .before .before .before .before .before .before .before .table-len in
+    let len = c .before .before .before .before .before .before .before .before .before .before .table-len in
     let start = c .before .before .before .before .before .before .before .before .before .before .before .before .before .before in
-    let a = start .args in
-    let cs = commands (now (a .xs)) (now (a .ys)) (now (a .kinds)) in
-    let ts = threadsOf (now (a .threads)) in
-    (table-short (now (a .threads)) (start .pre .0 .1) (table-len .ensures), room-start cs ts (now (a .out)) (start .pre .1 .1))
+    (table-short (now (start .args .threads)) (start .pre .0 .1) (len .ensures), omega (arith, room start))
 
-put-sizes-requires : tie.Need-put-sizes-requires
-put-sizes-requires c κs =
-    let put-start = c .before .before .before .put-start in let jef-hoop = c .before .before .before .before .before .jef-hoop in
-    let point-count = c .before .before .before .before .before .before .point-count in
-    let at-table-len = c .before .before .before .before .before .before .before .before .before .before .before .before .before .before in
-    let table-len = at-table-len .table-len in let start = at-table-len .before .before .before .before in
-    let a = start .args in
-    let cs = commands (now (a .xs)) (now (a .ys)) (now (a .kinds)) in
-    let ts = threadsOf (now (a .threads)) in
-    room-sizes cs ts (now (a .out)) (start .pre .1 .1)
-    (put-start .ensures) (length-start (table-len .result) (point-count .result) (jef-hoop .result))
+-- how far each put has come, in a buffer of the same length
+first : (c : tie.After-put-start)
+    → Far (c .put-start .result) 36 (c .put-start .last .1 .1 .1 .0) (now
+    (c .before .before .before .before .before .before .before .before .before .before .before .before .before .before .before .args .out))
+first c =
+    let len = length-start (c .before .before .before .before .before .before .before .before .before .before .before .table-len .result) (c .before .before .before .point-count .result)
+    (c .before .before .jef-hoop .result) in
+    further (far-start 0 (now (c .before .before .before .before .before .before .before .before .before .before .before .before .before .before .before .args .out))) (c .put-start .ensures) len
+
+second : (c : tie.After-put-sizes)
+    → Far (c .put-sizes .result) 116 (c .put-sizes .last .1 .1 .0) (now
+    (c .before .before .before .before .before .before .before .before .before .before .before .before .before .before .before .before .before .before .before .args .out))
+second c =
+    let h = c .before .before .before .before .before .before .before .before in
+    further (first (c .before .before .before .before)) (c .put-sizes .ensures) (length-sizes (h .before .before .before .spread .result) (h .spread2 .result))
+
+third : (c : tie.After-jef-palette)
+    → (let a =
+    c .before .before .before .before .before .before .before .before .before .before .before .before .before .before .before .before .before .before .before .before .before
+    .before .before .args in Far (c .jef-palette .result) (116 + 4 * length (jefTable (threadsOf (now (a .threads))))) (c .jef-palette .last .1 .0) (now (a .out)))
+third c =
+    further (second (c .before .before .before .before)) (c .jef-palette .ensures) (length-words (jefTable (threadsOf (now
+    (c .before .before .before .before .before .before .before .before .before .before .before .before .before .before .before .before .before .before .before .before .before
+    .before .before .args .threads)))))
 
 jef-palette-requires : tie.Need-jef-palette-requires
 jef-palette-requires c κs =
-    let put-sizes = c .before .before .before .put-sizes in let put-start = c .before .before .before .before .before .before .before .put-start in
-    let jef-hoop = c .before .before .before .before .before .before .before .before .before .jef-hoop in
-    let point-count = c .before .before .before .before .before .before .before .before .before .before .point-count in
-    let at-spread2 = c .before .before .before .before .before .before .before .before .before .before .before in
-    let spread2 = at-spread2 .spread2 in let spread = at-spread2 .before .before .before .spread in
-    let table-len = at-spread2 .before .before .before .before .before .before .before .table-len in
-    let start = at-spread2 .before .before .before .before .before .before .before .before .before .before .before in
-    let a = start .args in
-    let cs = commands (now (a .xs)) (now (a .ys)) (now (a .kinds)) in
-    let ts = threadsOf (now (a .threads)) in
-    room-table cs ts (now (a .out)) (start .pre .1 .1)
-    (put-start .ensures) (length-start (table-len .result) (point-count .result) (jef-hoop .result))
-    (put-sizes .ensures) (length-sizes (spread .result) (spread2 .result))
+    let start = c .before .before .before .before .before .before .before .before .before .before .before .before .before .before .before .before .before .before .before .before .before .before in
+    omega (arith, second (c .before .before .before), room start, length-words (jefTable (threadsOf (now (start .args .threads)))))
 
 put-kinds-requires : tie.Need-put-kinds-requires
 put-kinds-requires c κs =
-    let jef-palette = c .before .before .before .jef-palette in
-    let put-sizes = c .before .before .before .before .before .before .before .put-sizes in
-    let at-put-start = c .before .before .before .before .before .before .before .before .before .before .before in
-    let put-start = at-put-start .put-start in let jef-hoop = at-put-start .before .before .jef-hoop in
-    let point-count = at-put-start .before .before .before .point-count in let spread2 = at-put-start .before .before .before .before .spread2 in
-    let spread = at-put-start .before .before .before .before .before .before .before .spread in
-    let at-table-len = at-put-start .before .before .before .before .before .before .before .before .before .before .before in
-    let table-len = at-table-len .table-len in let start = at-table-len .before .before .before .before in
-    let a = start .args in
-    let cs = commands (now (a .xs)) (now (a .ys)) (now (a .kinds)) in
-    let ts = threadsOf (now (a .threads)) in
-    room-kinds cs ts (now (a .out)) (start .pre .1 .1)
-    (put-start .ensures) (length-start (table-len .result) (point-count .result) (jef-hoop .result))
-    (put-sizes .ensures) (length-sizes (spread .result) (spread2 .result))
-    (jef-palette .ensures) (table-len .ensures)
+    let len = c .before .before .before .before .before .before .before .before .before .before .before .before .before .before .before .before .before .before .before .before .before .before in
+    omega (arith, third (c .before .before .before), room (len .before .before .before .before), len .table-len .ensures)
+
+-- the bounds, as the code reads them
+across : (c : tie.After-spread) → (let r = c .before .before .before .near-bounds .result in SFits w32 (r .min .x) × SFits w32 (r .max .x))
+across c = (search (needs, c .before .before .struct-told .given), search (needs, c .before .struct-told2 .given))
+
+down : (c : tie.After-spread2) → (let r = c .before .before .before .before .before .before .near-bounds .result in SFits w32 (r .min .y) × SFits w32 (r .max .y))
+down c = (search (needs, c .before .before .struct-told3 .given), search (needs, c .before .struct-told4 .given))
 
 returns : tie.Need-returns
 returns c =
-    let a = c .before .before .before .before .before .before .before .before .before .before .before .before .before .before .before .before
-    .before .before .before .before .before .before .before .before .before .before .before .before .before .args in
+    let put = c .before .before .before .before .before .before .before .before .before .before .before .before .before .before in
+    let high = put .before .before .before .before in
+    let wide = high .before .before .before in
+    let b = wide .before .before .before in
+    let a = b .before .before .before .before .before .args in
     let cs = commands (now (a .xs)) (now (a .ys)) (now (a .kinds)) in
-    let ts = threadsOf (now (a .threads)) in
-    let b = c .before .before .before .before .before .before .before .before .before .before .before .before .before .before .before .before
-    .before .before .before .before .before .before .before .before .near-bounds in
-    let w = width-is cs (b .ensures) (search (
-      needs,
-      c .before .before .before .before .before .before .before .before .before .before .before
-          .before .before .before .before .before .before .before .before .before .before .before .before .struct-told .given,
-    )) (search (
-      needs,
-      c .before .before .before .before .before .before .before .before .before .before .before .before .before .before .before
-          .before .before .before .before .before .before .before .struct-told2 .given,
-    )) (c .before .before .before .before .before
-    .before .before .before .before .before .before .before .before .before .before .before .before .before .before .before .before .spread .ensures) in
-    let h = height-is cs (b .ensures) (search (
-      needs,
-      c .before .before .before .before .before .before .before .before .before .before
-          .before .before .before .before .before .before .before .before .before .before .struct-told3 .given,
-    )) (search (
-      needs,
-      c .before
-          .before .before .before .before .before .before .before .before .before .before .before .before .before .before .before .before
-          .before .before .struct-told4 .given,
-    )) (c .before .before .before .before .before .before .before .before .before .before
-    .before .before .before .before .before .before .before .before .spread2 .ensures) in
-    put-as
-    (put-put (c .before .before .before .before .before .before .before .before .before .before .before .before .before .before .put-start .ensures)
-    (put-put (c .before .before .before .before .before .before .before .before .before .before .put-sizes .ensures) (put-put (c .before
-    .before .before .before .before .before .jef-palette .ensures) (c .before .before .put-kinds .ensures))))
-    (header-as cs ts (c .before .before .before .before .before .before .before .before .before .before .before .before .before .before
-    .before .before .before .before .before .before .before .before .before .before .before .table-len .ensures) (c .before .before
-    .before .before .before .before .before .before .before .before .before .before .before .before .before .before
-    .before .point-count .ensures) (c .before .before .before .before .before .before .before .before .before .before .before
-    .before .before .before .before .before .jef-hoop .ensures) w h)
+    let w = width-is cs (b .near-bounds .ensures) (across wide .0) (across wide .1) (wide .spread .ensures) in
+    let h = height-is cs (b .near-bounds .ensures) (down high .0) (down high .1) (high .spread2 .ensures) in
+    let sizes = c .before .before .before .before .before .before .before .before .before .before .put-sizes .ensures in
+    let table = c .before .before .before .before .before .before .jef-palette .ensures in
+    put-as (put-put (put .put-start .ensures) (put-put sizes (put-put table (c .before .before .put-kinds .ensures))))
+    (header-as cs (threadsOf (now (a .threads))) (b .before .table-len .ensures) (put .before .before .before .point-count .ensures) (put .before .before .jef-hoop .ensures) w h)
 
 pub put-header-spec : {M : Type 1} → statement M
 put-header-spec =
     tie.close
     (tie.spec
-    (λ c κs. search needs) (λ c κs. search needs) (λ c κs. search needs) (λ c κs. search needs) point-count-requires
-    (λ c κs. search needs) put-start-requires put-sizes-requires jef-palette-requires put-kinds-requires
-    (λ c. search needs) returns)
+    (λ c κs. search needs) (λ c κs. search needs) (λ c κs. search needs) (λ c κs. search needs)
+    (λ c κs. c .before .before .before .before .before .before .before .before .before .before .before .pre .0 .0) (λ c κs. search needs) put-start-requires
+    (λ c κs. omega (
+      arith,
+      first (c .before .before .before),
+      room
+          (c .before .before .before .before .before .before .before .before .before .before .before .before .before .before .before .before .before .before),
+    )) jef-palette-requires put-kinds-requires (λ c. search needs) returns)

@@ -1,75 +1,38 @@
 -- Five puts in a row are one.
+use Prim.Native.Nat.{_+_}
 use native.Mathlib.Omega.{arith}
+use denote.Ref.{now}
 use mathlib.Core.List.{[], _∷_}
 use Rattle.rules.specs.Vocabulary.{joined}
-use Rattle.laws.specs.Buffers.{put-put, put-length, put-nothing}
+use Rattle.laws.specs.Buffers.{put-put, put-nothing}
 use Rattle.jef.proofs.Words.{length-words}
 use Rattle.jef.proofs.Hoops.{length-edges}
 use borrow.Author.Needs.{needs}
+use Rattle.jef.proofs.Far.{Far, far-start, further}
 use Rattle.jef.proofs.put_sizes.Statement.{statement}
 use Rattle.jef.proofs.put_sizes.Tie as tie
 
-put-edges-requires : tie.Need-put-edges-requires
-put-edges-requires c κs =
-    let x = c .before .before .before .before .before .before .half-up .result in
-    let y = c .before .before .before .before .before .half-up2 .result in
-    omega (
-      arith,
-      length-words (x ∷ y ∷ x ∷ y ∷ []),
-      put-length (c .before .before .before .put-twice .ensures),
-    )
+-- how far each put has come, in a buffer of the same length
+first : (c : tie.After-put-twice) → (let a = c .before .before .before .before .before .args in Far (c .put-twice .result) (a .at + 16) (c .put-twice .last .1 .1 .0) (now (a .out)))
+first c =
+    let a = c .before .before .before .before .before .args in
+    let x = c .before .before .before .half-up .result in
+    let y = c .before .before .half-up2 .result in
+    further (far-start (a .at) (now (a .out))) (c .put-twice .ensures) (length-words (x ∷ y ∷ x ∷ y ∷ []))
 
-put-edges-requires-2 : tie.Need-put-edges-requires-2
-put-edges-requires-2 c κs =
-    let a = c .before .before .before .before .before .before .before .before .before .before .before .before .args in
-    let x = c .before .before .before .before .before .before .before .before .before .before .half-up .result in
-    let y = c .before .before .before .before .before .before .before .before .before .half-up2 .result in
-    omega (
-      arith,
-      length-words (x ∷ y ∷ x ∷ y ∷ []),
-      put-length (c .before .before .before .before .before .before .before .put-twice .ensures),
-      length-edges 550 550 (a .w) (a .h),
-      put-length (c .before .before .before .put-edges .ensures),
-    )
+second : (c : tie.After-put-edges)
+    → (let a = c .before .before .before .before .before .before .before .before .before .args in Far (c .put-edges .result) (a .at + 16 + 16) (c .put-edges .last .1 .1 .1 .1 .0) (now (a .out)))
+second c = further (first (c .before .before .before .before)) (c .put-edges .ensures) (length-edges 550 550 _ _)
 
-put-edges-requires-3 : tie.Need-put-edges-requires-3
-put-edges-requires-3 c κs =
-    let a = c .before .before .before .before .before .before .before .before .before .before .before .before .before .before .before .before .args in
-    let x = c .before .before .before .before .before .before .before .before .before .before .before .before .before .before .half-up .result in
-    let y = c .before .before .before .before .before .before .before .before .before .before .before .before .before .half-up2 .result in
-    omega (
-      arith,
-      length-words (x ∷ y ∷ x ∷ y ∷ []),
-      put-length (c .before .before .before .before .before .before .before .before .before .before .before .put-twice .ensures),
-      length-edges 550 550 (a .w) (a .h),
-      put-length (c .before .before .before .before .before .before .before .put-edges .ensures),
-      length-edges 250 250 (a .w) (a .h),
-      put-length (c .before .before .before .put-edges2 .ensures),
-    )
+third : (c : tie.After-put-edges2)
+    → (let a = c .before .before .before .before .before .before .before .before .before .before .before .before .before .args in
+    Far (c .put-edges2 .result) (a .at + 16 + 16 + 16) (c .put-edges2 .last .1 .1 .1 .1 .0) (now (a .out)))
+third c = further (second (c .before .before .before .before)) (c .put-edges2 .ensures) (length-edges 250 250 _ _)
 
-put-edges-requires-4 : tie.Need-put-edges-requires-4
-put-edges-requires-4 c κs =
-    let put-edges3 = c .before .before .before .put-edges3 in
-    let put-edges2 = c .before .before .before .before .before .before .before .put-edges2 in
-    let at-put-edges = c .before .before .before .before .before .before .before .before .before .before .before in
-    let put-edges = at-put-edges .put-edges in let put-twice = at-put-edges .before .before .before .before .put-twice in
-    let half-up2 = at-put-edges .before .before .before .before .before .before .half-up2 in
-    let half-up = at-put-edges .before .before .before .before .before .before .before .half-up in
-    let start = at-put-edges .before .before .before .before .before .before .before .before .before in
-    let a = start .args in
-    let x = half-up .result in
-    let y = half-up2 .result in
-    omega (
-      arith,
-      length-words (x ∷ y ∷ x ∷ y ∷ []),
-      put-length (put-twice .ensures),
-      length-edges 550 550 (a .w) (a .h),
-      put-length (put-edges .ensures),
-      length-edges 250 250 (a .w) (a .h),
-      put-length (put-edges2 .ensures),
-      length-edges 700 1000 (a .w) (a .h),
-      put-length (put-edges3 .ensures),
-    )
+fourth : (c : tie.After-put-edges3)
+    → (let a = c .before .before .before .before .before .before .before .before .before .before .before .before .before .before .before .before .before .args in
+    Far (c .put-edges3 .result) (a .at + 16 + 16 + 16 + 16) (c .put-edges3 .last .1 .1 .1 .1 .0) (now (a .out)))
+fourth c = further (third (c .before .before .before .before)) (c .put-edges3 .ensures) (length-edges 700 1000 _ _)
 
 returns : tie.Need-returns
 unfolding joined
@@ -90,5 +53,5 @@ pub put-sizes-spec : {M : Type 1} → statement M
 put-sizes-spec =
     tie.close
     (tie.spec
-    (λ c κs. search needs) (λ c κs. search needs) (λ c κs. search needs) put-edges-requires put-edges-requires-2
-    put-edges-requires-3 put-edges-requires-4 (λ c. search needs) returns)
+    (λ c κs. search needs) (λ c κs. search needs) (λ c κs. search needs) (λ c κs. omega (arith, first (c .before .before .before))) (λ c κs. omega (arith, second (c .before .before .before)))
+    (λ c κs. omega (arith, third (c .before .before .before))) (λ c κs. omega (arith, fourth (c .before .before .before))) (λ c. search needs) returns)

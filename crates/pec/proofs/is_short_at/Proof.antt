@@ -34,9 +34,6 @@ step-requires-2 c κs =
     let start = c .before .before .before .before .before .before in
     rw (read-step (now (start .args .ys)) (start .args .i) (c .before .step-arg3 .given) (c .step-arg4 .given)) (near start .y)
 
-shared-slice-read-result : tie.Need-shared-slice-read-result
-shared-slice-read-result c = omega (arith, here (c .before .before .before .before .before .before .before .before .before .before))
-
 returns : tie.Need-returns
 returns c =
     let first = c .before .before in
@@ -61,9 +58,8 @@ pub is-short-at-spec : {M : Type 1} → statement M
 is-short-at-spec =
     tie.close
     (tie.spec
-    (λ c. search needs) (λ c. omega (arith, here (c .before))) (λ c. omega (arith, here (c .before)))
-    (λ c. omega (arith, here (c .before .before))) (λ c. omega (arith, here (c .before .before))) step-requires (λ c. search needs)
-    (λ c. omega (arith, here (c .before .before .before .before))) (λ c. omega (arith, here (c .before .before .before .before)))
-    (λ c. omega (arith, here (c .before .before .before .before .before)))
+    (λ c. search needs) (λ c. omega (arith, here (c .before))) (λ c. omega (arith, here (c .before))) (λ c. omega (arith, here (c .before .before)))
+    (λ c. omega (arith, here (c .before .before))) step-requires (λ c. search needs) (λ c. omega (arith, here (c .before .before .before .before)))
+    (λ c. omega (arith, here (c .before .before .before .before))) (λ c. omega (arith, here (c .before .before .before .before .before)))
     (λ c. omega (arith, here (c .before .before .before .before .before))) step-requires-2 (λ c κs. search needs) (λ c κs. search needs)
-    shared-slice-read-result returns)
+    (λ c. omega (arith, here (c .before .before .before .before .before .before .before .before .before .before))) returns)

@@ -19,19 +19,10 @@ Inv-loop xs ys kinds i n k₀ k =
 abbrev μ-loop : tie.MeasureT-loop
 μ-loop xs ys kinds i n k₀ k = n - k
 
-loop-holds : tie.Need-loop-holds Inv-loop μ-loop
-loop-holds c = (c .list-len .ensures, (omega arith, (omega arith, shorts-none _ _ _ _)))
-
 add-loop : tie.Need-add-loop Inv-loop μ-loop
 add-loop c =
     let a = c .before .before .before .args in
     omega (arith, length-commands (now (a .xs)) (now (a .ys)) (now (a .kinds)))
-
-are-short-requires : tie.Need-are-short-requires Inv-loop μ-loop
-are-short-requires c κs = ((omega arith, omega arith), c .before .before .before .before .pre .1)
-
-returns : tie.Need-returns Inv-loop μ-loop
-returns c = let inv = c .before .before .before .loop .inv in (inv .1 .0, (omega arith, inv .1 .1 .1))
 
 add-k : tie.Need-add-k Inv-loop μ-loop
 add-k c =
@@ -46,11 +37,11 @@ loop-again c =
     let run = shorts-join (now (a .xs)) (now (a .ys)) (now (a .kinds)) (a .i) (loop .k) (loop .k + 8) (loop .inv .1 .1 .1) more in
     (loop .inv .0, (omega arith, (omega arith, run)))
 
-returns-2 : tie.Need-returns-2 Inv-loop μ-loop
-returns-2 c = let inv = c .before .loop .inv in (inv .1 .0, (omega arith, inv .1 .1 .1))
-
 pub short-till-spec : {M : Type 1} → statement M
 short-till-spec =
     tie.close
     (tie.spec
-    Inv-loop μ-loop (λ c κs. tt) loop-holds add-loop are-short-requires returns add-k (λ c. omega arith) loop-again returns-2)
+    Inv-loop μ-loop (λ c κs. tt) (λ c. (c .list-len .ensures, (omega arith, (omega arith, shorts-none _ _ _ _)))) add-loop
+    (λ c κs. ((omega arith, omega arith), c .before .before .before .before .pre .1))
+    (λ c. let inv = c .before .before .before .loop .inv in (inv .1 .0, (omega arith, inv .1 .1 .1))) add-k (λ c. omega arith) loop-again
+    (λ c. let inv = c .before .loop .inv in (inv .1 .0, (omega arith, inv .1 .1 .1))))

@@ -18,9 +18,6 @@ Inv-loop kinds kind i all₀ k₀ all k = (i ≤ k) × ((k ≤ i + 8) × (all �
 abbrev μ-loop : tie.MeasureT-loop
 μ-loop kinds kind i all₀ k₀ all k = i + 8 - k
 
-loop-holds : tie.Need-loop-holds Inv-loop μ-loop
-loop-holds c = (omega arith, (omega arith, λ e. alike-none (now (c .args .kinds)) (c .args .kind) (c .args .i)))
-
 loop-again : tie.Need-loop-again Inv-loop μ-loop
 loop-again c =
     let start = c .before .before .before in
@@ -39,4 +36,5 @@ pub are-alike-spec : {M : Type 1} → statement M
 are-alike-spec =
     tie.close
     (tie.spec
-    Inv-loop μ-loop loop-holds (λ c. omega arith) (λ c. omega arith) (λ c. omega arith) (λ c. omega arith) loop-again returns)
+    Inv-loop μ-loop (λ c. (omega arith, (omega arith, λ e. alike-none (now (c .args .kinds)) (c .args .kind) (c .args .i)))) (λ c. omega arith) (λ c. omega arith)
+    (λ c. omega arith) (λ c. omega arith) loop-again returns)

@@ -75,24 +75,6 @@ loop-again c =
     let within = within-on {j = end} (inv .0) (omega (arith, w .some)) (loop .s .x) (loop .s .y) in
     (loop .inv .0, (within, (x, (y, (sizing, (omega (arith, inv .1 .1 .1 .1 .0, w .some), omega (arith, inv .1 .1 .1 .1 .1, w .some)))))))
 
-add-bytes-2 : tie.Need-add-bytes-2 Inv-loop μ-loop
-add-bytes-2 c = omega (arith, here (c .before .before .before .before .before .before), c .cmd-len .ensures .1)
-
-add-logged : tie.Need-add-logged Inv-loop μ-loop
-add-logged c = omega (arith, here (c .before .before .before .before .before .before .before), c .one-if .ensures .1)
-
-mul-next : tie.Need-mul-next Inv-loop μ-loop
-mul-next c = omega (arith, here (c .before .before .before .before .before .before .before .before))
-
-shared-slice-copy-out-next : tie.Need-shared-slice-copy-out-next Inv-loop μ-loop
-shared-slice-copy-out-next c = omega (arith, here (c .before .before .before .before .before .before .before .before))
-
-mul-next-2 : tie.Need-mul-next-2 Inv-loop μ-loop
-mul-next-2 c = omega (arith, here (c .before .before .before .before .before .before .before .before .before))
-
-shared-slice-copy-out-next-2 : tie.Need-shared-slice-copy-out-next-2 Inv-loop μ-loop
-shared-slice-copy-out-next-2 c = omega (arith, here (c .before .before .before .before .before .before .before .before .before))
-
 next-requires : tie.Need-next-requires Inv-loop μ-loop
 next-requires c κs =
     let inside = c .before .before .before .before .before .before .before .before .before .before in
@@ -120,31 +102,11 @@ loop-again-2 c =
     let x₀ = inv .1 .0 in
     let y₀ = inv .1 .1 .0 in
     let u = elsewhere (now (a .xs)) (now (a .ys)) (now (a .kinds)) i s ts x₀ y₀ in
-    let sizing = rw (after-moved (now (a .xs)) (now (a .ys)) (now (a .kinds)) i s ts x₀ y₀ after) at (sizing-more (now (a .xs)) (now (a .ys)) (now
-    (a .kinds)) i (movedTo s x₀ y₀) ts l (inv .1 .1 .1 .0)) in (
-      loop .inv .0,
-      (
-        rw after within,
-        (
-          u .x,
-          (
-            u .y,
-            (
-              rw (long, one, last) sizing,
-              (
-                omega (
-                  arith,
-                  inv .1 .1 .1 .1 .0,
-                  c .before .before .before
-                      .before .before .cmd-len .ensures .1,
-                ),
-                omega (arith, inv .1 .1 .1 .1 .1, c .before .before .before .before .one-if .ensures .1),
-              ),
-            ),
-          ),
-        ),
-      ),
-    )
+    let more = sizing-more (now (a .xs)) (now (a .ys)) (now (a .kinds)) i (movedTo s x₀ y₀) ts l (inv .1 .1 .1 .0) in
+    let sizing = rw (after-moved (now (a .xs)) (now (a .ys)) (now (a .kinds)) i s ts x₀ y₀ after) at more in
+    let few = c .before .before .before .before .before .cmd-len .ensures .1 in
+    let some = c .before .before .before .before .one-if .ensures .1 in
+    (loop .inv .0, (rw after within, (u .x, (u .y, (rw (long, one, last) sizing, (omega (arith, inv .1 .1 .1 .1 .0, few), omega (arith, inv .1 .1 .1 .1 .1, some)))))))
 
 returns : tie.Need-returns Inv-loop μ-loop
 returns c =
@@ -158,8 +120,12 @@ pub measured-spec : {M : Type 1} → statement M
 measured-spec =
     tie.close
     (tie.spec
-    Inv-loop μ-loop (λ c κs. tt) (λ c κs. c .before .before .before .pre .0) loop-holds (λ c. omega (arith, here (c .before))) (λ c κs. tt)
-    (λ c κs. tt) (λ c κs. omega arith) (λ c. omega (arith, stretch c .some)) mul-bytes add-bytes
-    (λ c. omega (arith, stretch c .some, stretch c .inside)) loop-again (λ c κs. tt) (λ c κs. tt) add-bytes-2 (λ c κs. tt) add-logged
-    (λ c κs. tt) mul-next shared-slice-copy-out-next mul-next-2 shared-slice-copy-out-next-2 next-requires (λ c. omega arith)
-    (λ c. omega arith) loop-again-2 returns)
+    Inv-loop μ-loop (λ c κs. tt) (λ c κs. c .before .before .before .pre .0) loop-holds (λ c. omega (arith, here (c .before))) (λ c κs. tt) (λ c κs. tt)
+    (λ c κs. omega arith) (λ c. omega (arith, stretch c .some)) mul-bytes add-bytes (λ c. omega (arith, stretch c .some, stretch c .inside)) loop-again (λ c κs. tt)
+    (λ c κs. tt) (λ c. omega (arith, here (c .before .before .before .before .before .before), c .cmd-len .ensures .1)) (λ c κs. tt)
+    (λ c. omega (arith, here (c .before .before .before .before .before .before .before), c .one-if .ensures .1)) (λ c κs. tt)
+    (λ c. omega (arith, here (c .before .before .before .before .before .before .before .before)))
+    (λ c. omega (arith, here (c .before .before .before .before .before .before .before .before)))
+    (λ c. omega (arith, here (c .before .before .before .before .before .before .before .before .before)))
+    (λ c. omega (arith, here (c .before .before .before .before .before .before .before .before .before))) next-requires (λ c. omega arith) (λ c. omega arith)
+    loop-again-2 returns)

@@ -1,5 +1,5 @@
 -- Where a run opens: the section's beginning, the place of the last stitch, the place of the run's last command.
-use mathlib.Core.Path.{_≡_}
+use mathlib.Core.Path.{_≡_, refl}
 use Prim.Native.Nat.{_+_, _-_, _<_}
 use native.Mathlib.Omega.{arith}
 use denote.Ref.{now}
@@ -14,7 +14,7 @@ use Rattle.rules.specs.Lists.{commands}
 use Rattle.rules.specs.Pes.{pesPoint, pesCmd}
 use Rattle.laws.specs.Buffers.{put-put, put-length, put-nothing, put-as}
 use Rattle.laws.specs.Ints.{ret}
-use Rattle.laws.specs.Listing.{cmdAt, length-commands}
+use Rattle.laws.specs.Listing.{cmdAt, Listed, listed}
 use Rattle.laws.specs.Lengths.{length-point}
 use Rattle.pes_section_cmd.specs.States.{stateOf, Near}
 use Rattle.pes_section_cmd.specs.declared.State.{State}
@@ -35,6 +35,13 @@ sub-end c =
     let s = c .before .before .before .before in
     let a = s .args in
     omega (arith, c .run-end .ensures, run-some (now (a .xs)) (now (a .ys)) (now (a .kinds)) (a .i) (s .pre .0))
+
+-- the run's last command is within the three slices
+last : (c : tie.After-run-end) → (let a = c .before .before .before .before .args in Listed (now (a .xs)) (now (a .ys)) (now (a .kinds)) (c .run-end .result - 1))
+last c =
+    let s = c .before .before .before .before in
+    let a = s .args in
+    listed refl (omega (arith, c .run-end .ensures, run-inside (now (a .xs)) (now (a .ys)) (now (a .kinds)) (a .i) (s .pre .0)))
 
 put-open-requires : tie.Need-put-open-requires
 put-open-requires c κs =
@@ -74,34 +81,6 @@ put-point-requires c κs =
     let long = jump-long (stateOf (a .s)) (a .left) (a .bottom) (cmdAt (now (a .xs)) (now (a .ys)) (now (a .kinds)) (a .i)) cs in
     let p = put-open .ensures in
     (from-near c, omega (arith, long, rw (not-false (a .new) (if1 .left)) at (s .pre .1 .1), p .ends, put-length p))
-
-mul-put-point : tie.Need-mul-put-point
-mul-put-point c =
-    let run-end = c .before .before .before .before .before .before .before .before .before .before .run-end in
-    let s = c .before .before .before .before .before .before .before .before .before .before .before .before .before .before in
-    let a = s .args in
-    omega (arith, run-end .ensures, run-inside (now (a .xs)) (now (a .ys)) (now (a .kinds)) (a .i) (s .pre .0), length-commands (now (a .xs)) (now (a .ys)) (now (a .kinds)))
-
-shared-slice-copy-out-put-point : tie.Need-shared-slice-copy-out-put-point
-shared-slice-copy-out-put-point c =
-    let run-end = c .before .before .before .before .before .before .before .before .before .before .run-end in
-    let s = c .before .before .before .before .before .before .before .before .before .before .before .before .before .before in
-    let a = s .args in
-    omega (arith, run-end .ensures, run-inside (now (a .xs)) (now (a .ys)) (now (a .kinds)) (a .i) (s .pre .0), length-commands (now (a .xs)) (now (a .ys)) (now (a .kinds)))
-
-mul-put-point-2 : tie.Need-mul-put-point-2
-mul-put-point-2 c =
-    let at-run-end = c .before .before .before .before .before .before .before .before .before .before .before in
-    let run-end = at-run-end .run-end in let s = at-run-end .before .before .before .before in
-    let a = s .args in
-    omega (arith, run-end .ensures, run-inside (now (a .xs)) (now (a .ys)) (now (a .kinds)) (a .i) (s .pre .0), length-commands (now (a .xs)) (now (a .ys)) (now (a .kinds)))
-
-shared-slice-copy-out-put-point-2 : tie.Need-shared-slice-copy-out-put-point-2
-shared-slice-copy-out-put-point-2 c =
-    let at-run-end = c .before .before .before .before .before .before .before .before .before .before .before in
-    let run-end = at-run-end .run-end in let s = at-run-end .before .before .before .before in
-    let a = s .args in
-    omega (arith, run-end .ensures, run-inside (now (a .xs)) (now (a .ys)) (now (a .kinds)) (a .i) (s .pre .0), length-commands (now (a .xs)) (now (a .ys)) (now (a .kinds)))
 
 put-point-requires-2 : tie.Need-put-point-requires-2
 put-point-requires-2 c κs =
@@ -151,14 +130,14 @@ returns-2 c =
     let a = s .args in
     let l = s .pre .0 in
     let end = run-end .result - 1 in
-    let last : end ≡ a .i + runFrom (now (a .xs)) (now (a .ys)) (now (a .kinds)) (a .i) l - 1 = omega (arith, run-end .ensures) in
+    let far : end ≡ a .i + runFrom (now (a .xs)) (now (a .ys)) (now (a .kinds)) (a .i) l - 1 = omega (arith, run-end .ensures) in
     let p = put-as (put-point .ensures) (from-point (back′)) in
     let q = rw (
       toZ-ofZ (s .fits .left),
       toZ-ofZ (s .fits .bottom),
       ret w32 (getD (now (a .xs)) end (pos 0)) (put-point-arg2 .given),
       ret w32 (getD (now (a .ys)) end (pos 0)) (put-point-arg3 .given),
-      last,
+      far,
     ) at (c .before .before .put-point2 .ensures) in
     rw (not-false (a .new) (if1 .left), run-x (now (a .xs)) (now (a .ys)) (now (a .kinds)) (a .i) l, run-y (now (a .xs)) (now (a .ys)) (now (a .kinds)) (a .i) l)
     (put-put (put-open .ensures) (put-put p (put-put q (put-nothing _ _))))
@@ -167,6 +146,14 @@ pub put-jump-spec : {M : Type 1} → statement M
 put-jump-spec =
     tie.close
     (tie.spec
-    returns (λ c κs. search needs) sub-end put-open-requires put-point-requires mul-put-point
-    shared-slice-copy-out-put-point mul-put-point-2 shared-slice-copy-out-put-point-2 put-point-requires-2
+    returns (λ c κs. search needs) sub-end put-open-requires put-point-requires (λ c. omega (arith, last (c .before .before .before .before .before .before .before .before .before .before)))
+    (λ c. omega (arith, last (c .before .before .before .before .before .before .before .before .before .before))) (λ c. omega (
+      arith,
+      last
+          (c .before .before .before .before .before .before .before .before .before .before .before),
+    )) (λ c. omega (
+      arith,
+      last
+          (c .before .before .before .before .before .before .before .before .before .before .before),
+    )) put-point-requires-2
     (λ c. search needs) returns-2)

@@ -80,18 +80,6 @@ put-entry-requires c κs =
     let log = rw (c .before .before .before .before .is-new .ensures) at (c .before .is-logged .ensures) in
     rw log (writing-room vs ws (loop .inv .1 .1 .1 .1) (next-entry (now (a .xs)) (now (a .ys)) (now (a .kinds)) (loop .i) s ts l (loop .last)))
 
-mul-next : tie.Need-mul-next Inv-loop μ-loop
-mul-next c = omega (arith, here (c .before .before .before .before .before .before .before .before .before .before))
-
-shared-slice-copy-out-next : tie.Need-shared-slice-copy-out-next Inv-loop μ-loop
-shared-slice-copy-out-next c = omega (arith, here (c .before .before .before .before .before .before .before .before .before .before))
-
-mul-next-2 : tie.Need-mul-next-2 Inv-loop μ-loop
-mul-next-2 c = omega (arith, here (c .before .before .before .before .before .before .before .before .before .before .before))
-
-shared-slice-copy-out-next-2 : tie.Need-shared-slice-copy-out-next-2 Inv-loop μ-loop
-shared-slice-copy-out-next-2 c = omega (arith, here (c .before .before .before .before .before .before .before .before .before .before .before))
-
 next-requires : tie.Need-next-requires Inv-loop μ-loop
 next-requires c κs =
     let inside = c .before .before .before .before .before .before .before .before .before .before .before .before in
@@ -141,7 +129,10 @@ pub put-log-spec : {M : Type 1} → statement M
 put-log-spec =
     tie.close
     (tie.spec
-    Inv-loop μ-loop (λ c κs. tt) (λ c κs. c .before .before .before .before .pre .0) loop-holds (λ c. omega (arith, here (c .before)))
-    (λ c κs. tt) (λ c κs. tt) (λ c κs. omega arith) (λ c. omega (arith, stretch c .some, stretch c .inside)) loop-again (λ c κs. tt)
-    put-entry-requires (λ c κs. tt) mul-next shared-slice-copy-out-next mul-next-2 shared-slice-copy-out-next-2 next-requires add-i
-    (λ c. omega arith) loop-again-2 (λ c. c .before .loop .inv .1 .1 .1 .1 .same) returns)
+    Inv-loop μ-loop (λ c κs. tt) (λ c κs. c .before .before .before .before .pre .0) loop-holds (λ c. omega (arith, here (c .before))) (λ c κs. tt) (λ c κs. tt)
+    (λ c κs. omega arith) (λ c. omega (arith, stretch c .some, stretch c .inside)) loop-again (λ c κs. tt) put-entry-requires (λ c κs. tt)
+    (λ c. omega (arith, here (c .before .before .before .before .before .before .before .before .before .before)))
+    (λ c. omega (arith, here (c .before .before .before .before .before .before .before .before .before .before)))
+    (λ c. omega (arith, here (c .before .before .before .before .before .before .before .before .before .before .before)))
+    (λ c. omega (arith, here (c .before .before .before .before .before .before .before .before .before .before .before))) next-requires add-i (λ c. omega arith)
+    loop-again-2 (λ c. c .before .loop .inv .1 .1 .1 .1 .same) returns)

@@ -1,5 +1,6 @@
 -- What is written is as far as the place; what comes is the places left.
 use Prim.Native.Nat.{_-_, _≤_, _<_}
+use mathlib.Core.Path.{refl}
 use native.Mathlib.Omega.{arith}
 use denote.Ref.{now}
 use lib.IntN.{pos}
@@ -12,7 +13,7 @@ use Rattle.rules.specs.Pes.{pesPoint}
 use Rattle.laws.specs.Buffers.{Writing, writing-start, writing-room, writing-more, writing-done}
 use Rattle.laws.specs.Ints.{ret}
 use Rattle.laws.specs.Lengths.{length-point}
-use Rattle.laws.specs.Listing.{length-commands}
+use Rattle.laws.specs.Listing.{Listed, listed}
 use Rattle.pes_sections.specs.Alike.{points}
 use Rattle.pes_sections.specs.States.{placed}
 use Rattle.pes_sections.proofs.Points.{near-at, points-long, points-more, points-none}
@@ -39,25 +40,9 @@ loop-holds c =
     rw (toZ-ofZ (s .fits .left), toZ-ofZ (s .fits .bottom))
     (s .pre .0 .0, (s .pre .0 .1 .1, writing-start (now (a .out)) (a .at) whole (omega (arith, long, s .pre .1))))
 
-mul-put-point : tie.Need-mul-put-point Inv-loop μ-loop
-mul-put-point c =
-    let a = c .before .before .before .before .args in
-    omega (arith, length-commands (now (a .xs)) (now (a .ys)) (now (a .kinds)))
-
-shared-slice-copy-out-put-point : tie.Need-shared-slice-copy-out-put-point Inv-loop μ-loop
-shared-slice-copy-out-put-point c =
-    let a = c .before .before .before .before .args in
-    omega (arith, length-commands (now (a .xs)) (now (a .ys)) (now (a .kinds)))
-
-mul-put-point-2 : tie.Need-mul-put-point-2 Inv-loop μ-loop
-mul-put-point-2 c =
-    let a = c .before .before .before .before .before .args in
-    omega (arith, length-commands (now (a .xs)) (now (a .ys)) (now (a .kinds)))
-
-shared-slice-copy-out-put-point-2 : tie.Need-shared-slice-copy-out-put-point-2 Inv-loop μ-loop
-shared-slice-copy-out-put-point-2 c =
-    let a = c .before .before .before .before .before .args in
-    omega (arith, length-commands (now (a .xs)) (now (a .ys)) (now (a .kinds)))
+-- the turn's command is within the three slices
+here : (c : tie.In-loop Inv-loop μ-loop) → (let a = c .before .before .before .before .args in Listed (now (a .xs)) (now (a .ys)) (now (a .kinds)) (c .before .loop .k))
+here c = listed refl (omega arith)
 
 put-point-requires : tie.Need-put-point-requires Inv-loop μ-loop
 put-point-requires c κs =
@@ -100,5 +85,5 @@ pub put-points-spec : {M : Type 1} → statement M
 put-points-spec =
     tie.close
     (tie.spec
-    Inv-loop μ-loop loop-holds mul-put-point shared-slice-copy-out-put-point mul-put-point-2 shared-slice-copy-out-put-point-2
+    Inv-loop μ-loop loop-holds (λ c. omega (arith, here c)) (λ c. omega (arith, here c)) (λ c. omega (arith, here (c .before))) (λ c. omega (arith, here (c .before)))
     put-point-requires (λ c. omega arith) (λ c. omega arith) loop-again (λ c. c .before .loop .inv .1 .1 .same) returns)

@@ -77,29 +77,17 @@ put-points-requires c κs =
     let room = writing-room (points left bottom (now (a .xs)) (now (a .ys)) (loop .i) n) _ (loop .inv .1 .1 .1) e in
     ((omega (arith, w .some), (w .inside, loop .inv .1 .1 .0 .1)), omega (arith, room, points-long left bottom (now (a .xs)) (now (a .ys)) (loop .i) n))
 
-sub-moved : tie.Need-sub-moved Inv-loop μ-loop
-sub-moved c = omega (arith, stretch-ends (stretch (c .before .before .before .before)))
-
 mul-moved : tie.Need-mul-moved Inv-loop μ-loop
 mul-moved c =
     let back = c .before .before .before .before in
     let start = back .before .before .before .before .before .before .before .before .before .before .before .before in
     omega (arith, stretch-ends (stretch (back)), start .pre .1 .0 .0)
 
-shared-slice-copy-out-moved : tie.Need-shared-slice-copy-out-moved Inv-loop μ-loop
-shared-slice-copy-out-moved c = omega (arith, stretch-ends (stretch (c .before .before .before .before)))
-
-sub-moved-2 : tie.Need-sub-moved-2 Inv-loop μ-loop
-sub-moved-2 c = omega (arith, stretch-ends (stretch (c .before .before .before .before .before)))
-
 mul-moved-2 : tie.Need-mul-moved-2 Inv-loop μ-loop
 mul-moved-2 c =
     let back = c .before .before .before .before .before in
     let start = back .before .before .before .before .before .before .before .before .before .before .before .before in
     omega (arith, stretch-ends (stretch (back)), start .pre .1 .0 .0)
-
-shared-slice-copy-out-moved-2 : tie.Need-shared-slice-copy-out-moved-2 Inv-loop μ-loop
-shared-slice-copy-out-moved-2 c = omega (arith, stretch-ends (stretch (c .before .before .before .before .before)))
 
 loop-less : tie.Need-loop-less Inv-loop μ-loop
 loop-less c =
@@ -139,18 +127,6 @@ put-cmd-requires c κs =
     let ws = bytesAfter left bottom ts s (now (a .xs)) (now (a .ys)) (now (a .kinds)) i in
     rw (c .before .before .before .is-new .ensures) (l, (loop .inv .1 .1 .0, writing-room vs ws (loop .inv .1 .1 .1) e))
 
-mul-next : tie.Need-mul-next Inv-loop μ-loop
-mul-next c = omega (arith, here (c .before .before .before .before .before .before .before .before))
-
-shared-slice-copy-out-next : tie.Need-shared-slice-copy-out-next Inv-loop μ-loop
-shared-slice-copy-out-next c = omega (arith, here (c .before .before .before .before .before .before .before .before))
-
-mul-next-2 : tie.Need-mul-next-2 Inv-loop μ-loop
-mul-next-2 c = omega (arith, here (c .before .before .before .before .before .before .before .before .before))
-
-shared-slice-copy-out-next-2 : tie.Need-shared-slice-copy-out-next-2 Inv-loop μ-loop
-shared-slice-copy-out-next-2 c = omega (arith, here (c .before .before .before .before .before .before .before .before .before))
-
 next-requires : tie.Need-next-requires Inv-loop μ-loop
 next-requires c κs =
     let inside = c .before .before .before .before .before .before .before .before .before .before in
@@ -189,8 +165,13 @@ pub put-sections-spec : {M : Type 1} → statement M
 put-sections-spec =
     tie.close
     (tie.spec
-    Inv-loop μ-loop (λ c κs. tt) (λ c κs. c .before .before .before .before .pre .0) loop-holds (λ c. omega (arith, here (c .before)))
-    (λ c κs. tt) (λ c κs. tt) (λ c κs. omega arith) put-points-requires sub-moved mul-moved shared-slice-copy-out-moved sub-moved-2
-    mul-moved-2 shared-slice-copy-out-moved-2 (λ c κs. tt) loop-less loop-again put-cmd-requires mul-next shared-slice-copy-out-next
-    mul-next-2 shared-slice-copy-out-next-2 next-requires (λ c. omega arith) (λ c. omega arith) loop-again-2
-    (λ c. c .before .loop .inv .1 .1 .1 .same) returns)
+    Inv-loop μ-loop (λ c κs. tt) (λ c κs. c .before .before .before .before .pre .0) loop-holds (λ c. omega (arith, here (c .before))) (λ c κs. tt) (λ c κs. tt)
+    (λ c κs. omega arith) put-points-requires (λ c. omega (arith, stretch-ends (stretch (c .before .before .before .before)))) mul-moved
+    (λ c. omega (arith, stretch-ends (stretch (c .before .before .before .before))))
+    (λ c. omega (arith, stretch-ends (stretch (c .before .before .before .before .before)))) mul-moved-2
+    (λ c. omega (arith, stretch-ends (stretch (c .before .before .before .before .before)))) (λ c κs. tt) loop-less loop-again put-cmd-requires
+    (λ c. omega (arith, here (c .before .before .before .before .before .before .before .before)))
+    (λ c. omega (arith, here (c .before .before .before .before .before .before .before .before)))
+    (λ c. omega (arith, here (c .before .before .before .before .before .before .before .before .before)))
+    (λ c. omega (arith, here (c .before .before .before .before .before .before .before .before .before))) next-requires (λ c. omega arith) (λ c. omega arith)
+    loop-again-2 (λ c. c .before .loop .inv .1 .1 .1 .same) returns)

@@ -1,5 +1,5 @@
 -- The section's beginning where a run opens, then the place.
-use mathlib.Core.Path.{_≡_}
+use mathlib.Core.Path.{_≡_, refl}
 use Prim.Native.Nat.{_-_}
 use native.Mathlib.Omega.{arith}
 use denote.Ref.{now}
@@ -11,7 +11,7 @@ use Rattle.rules.specs.Lists.{commands}
 use Rattle.rules.specs.Pes.{runLength, pesPoint, pesCmd}
 use Rattle.laws.specs.Buffers.{put-put, put-length, put-as}
 use Rattle.laws.specs.Ints.{ret}
-use Rattle.laws.specs.Listing.{cmdAt, length-commands}
+use Rattle.laws.specs.Listing.{cmdAt, Listed, listed}
 use Rattle.laws.specs.Lengths.{length-point}
 use Rattle.pes_section_cmd.specs.States.{stateOf, Near}
 use Rattle.pes_section_cmd.proofs.Distances.{back}
@@ -20,25 +20,9 @@ use borrow.Author.Needs.{needs}
 use Rattle.pes_sections.proofs.put_stitch.Statement.{statement}
 use Rattle.pes_sections.proofs.put_stitch.Tie as tie
 
-mul-x : tie.Need-mul-x
-mul-x c =
-    let a = c .before .before .args in
-    omega (arith, length-commands (now (a .xs)) (now (a .ys)) (now (a .kinds)))
-
-shared-slice-copy-out-x : tie.Need-shared-slice-copy-out-x
-shared-slice-copy-out-x c =
-    let a = c .before .before .args in
-    omega (arith, length-commands (now (a .xs)) (now (a .ys)) (now (a .kinds)))
-
-mul-y : tie.Need-mul-y
-mul-y c =
-    let a = c .before .before .before .args in
-    omega (arith, length-commands (now (a .xs)) (now (a .ys)) (now (a .kinds)))
-
-shared-slice-copy-out-y : tie.Need-shared-slice-copy-out-y
-shared-slice-copy-out-y c =
-    let a = c .before .before .before .args in
-    omega (arith, length-commands (now (a .xs)) (now (a .ys)) (now (a .kinds)))
+-- the command is within the three slices
+here : (s : tie.Start) → (let a = s .args in Listed (now (a .xs)) (now (a .ys)) (now (a .kinds)) (a .i))
+here s = listed refl (s .pre .0)
 
 -- the place as it is read
 module _ (c : tie.After-y) where
@@ -107,6 +91,10 @@ pub put-stitch-spec : {M : Type 1} → statement M
 put-stitch-spec =
     tie.close
     (tie.spec
-    mul-x shared-slice-copy-out-x mul-y shared-slice-copy-out-y (λ c κs. search needs) (λ c. search needs)
+    (λ c. omega (arith, here (c .before .before))) (λ c. omega (arith, here (c .before .before))) (λ c. omega (arith, here (c .before .before .before))) (λ c. omega (
+      arith,
+      here
+          (c .before .before .before),
+    )) (λ c κs. search needs) (λ c. search needs)
     put-open-requires put-point-requires (λ c. search needs) returns put-point-requires-2 (λ c. search needs)
     returns-2)

@@ -13,8 +13,8 @@ as-byte : (b : Bool) → boolByte b ≡ pick b 1 0
 as-byte true = refl
 as-byte false = refl
 
-returns-2 : tie.Need-returns-2
-returns-2 c = rw (le-leb _ _ (c .if1 .left)) (as-byte (leb (c .before .args .kind) (c .before .args .hi)))
-
 pub is-in-spec : {M : Type 1} → statement M
-is-in-spec = tie.close (tie.spec (λ c. rw (lt-leb _ _ (c .if1 .taken))) (λ c. search needs) returns-2)
+is-in-spec =
+    tie.close
+    (tie.spec
+    (λ c. rw (lt-leb _ _ (c .if1 .taken))) (λ c. search needs) (λ c. rw (le-leb _ _ (c .if1 .left)) (as-byte (leb (c .before .args .kind) (c .before .args .hi)))))

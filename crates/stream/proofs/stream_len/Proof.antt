@@ -27,24 +27,16 @@ told : (c : tie.After-list-len) (f : Stream)
     Told f (length (written (cmdOf f) (pos 0) (pos 0) cs)) n (count (kindIn 0 0) kinds) (count (kindIn 1 3) kinds) (count (kindIn 2 2) kinds))
 told c f = let a = c .before .before .args in rw (c .list-len .ensures) (lengths f (pos 0) (pos 0) (now (a .xs)) (now (a .ys)) (now (a .kinds)))
 
-returns : tie.Need-returns
-returns c = rw (c .before .enum-told .given .1) (omega (arith, told (c .before .before .before) Dst .told))
-
-returns-2 : tie.Need-returns-2
-returns-2 c = rw (c .before .before .enum-told2 .given .1) (omega (arith, told (c .before .before .before .before) Exp .told))
-
-returns-3 : tie.Need-returns-3
-returns-3 c = rw (c .before .before .enum-told3 .given .1) (omega (arith, told (c .before .before .before .before) Jef .told))
-
 pub stream-len-spec : {M : Type 1} → statement M
 stream-len-spec =
     tie.close
     (tie.spec
     (λ c κs. search needs) (λ c. search needs) (λ c. omega (arith, few (c .before .before))) (λ c κs. few (c .before .before))
-    (λ c. omega (arith, few (c .before .before .before))) (λ c. omega (arith, few (c .before .before .before))) (λ c. search needs)
-    (λ c κs. few (c .before .before)) (λ c. omega (arith, few (c .before .before .before))) (λ c κs. few (c .before .before .before))
-    (λ c. omega (arith, few (c .before .before .before .before))) (λ c. omega (arith, few (c .before .before .before .before)))
-    (λ c. search needs) (λ c. omega (arith, few (c .before .before))) (λ c κs. few (c .before .before))
-    (λ c. omega (arith, few (c .before .before .before))) (λ c. omega (arith, few (c .before .before .before)))
-    (λ c κs. few (c .before .before .before)) (λ c. omega (arith, few (c .before .before .before .before)))
-    (λ c. omega (arith, told (c .before .before .before .before) Jef .told)) returns returns-2 returns-3)
+    (λ c. omega (arith, few (c .before .before .before))) (λ c. omega (arith, few (c .before .before .before))) (λ c. search needs) (λ c κs. few (c .before .before))
+    (λ c. omega (arith, few (c .before .before .before))) (λ c κs. few (c .before .before .before)) (λ c. omega (arith, few (c .before .before .before .before)))
+    (λ c. omega (arith, few (c .before .before .before .before))) (λ c. search needs) (λ c. omega (arith, few (c .before .before))) (λ c κs. few (c .before .before))
+    (λ c. omega (arith, few (c .before .before .before))) (λ c. omega (arith, few (c .before .before .before))) (λ c κs. few (c .before .before .before))
+    (λ c. omega (arith, few (c .before .before .before .before))) (λ c. omega (arith, told (c .before .before .before .before) Jef .told))
+    (λ c. rw (c .before .enum-told .given .1) (omega (arith, told (c .before .before .before) Dst .told)))
+    (λ c. rw (c .before .before .enum-told2 .given .1) (omega (arith, told (c .before .before .before .before) Exp .told)))
+    (λ c. rw (c .before .before .enum-told3 .given .1) (omega (arith, told (c .before .before .before .before) Jef .told))))

@@ -21,19 +21,14 @@ returns : tie.Need-returns
 unfolding columnCell
 returns c = simp (le-ltb _ _ (c .if1 .taken))
 
-mul-result : tie.Need-mul-result
-mul-result c = rw (bit-of (c .before .args .x % 8) (omega arith)) (omega (arith, bit-le (c .before .args .x % 8) (omega arith)))
-
-add-result : tie.Need-add-result
-add-result c = rw (bit-of (c .before .args .x % 8) (omega arith)) (omega (arith, bit-le (c .before .args .x % 8) (omega arith)))
-
-cast-result : tie.Need-cast-result
-cast-result c = rw (bit-of (c .before .args .x % 8) (omega arith)) (omega (arith, bit-le (c .before .args .x % 8) (omega arith)))
-
 returns-2 : tie.Need-returns-2
 unfolding columnCell
 returns-2 c = simp (lt-ltb _ _ (c .if1 .left), bit-of (c .before .args .x % 8) (omega arith))
 
 pub column-cell-spec : {M : Type 1} → statement M
 column-cell-spec =
-    tie.close (tie.spec returns (λ c. search needs) mul-result add-result cast-result returns-2)
+    tie.close
+    (tie.spec
+    returns (λ c. search needs) (λ c. rw (bit-of (c .before .args .x % 8) (omega arith)) (omega (arith, bit-le (c .before .args .x % 8) (omega arith))))
+    (λ c. rw (bit-of (c .before .args .x % 8) (omega arith)) (omega (arith, bit-le (c .before .args .x % 8) (omega arith))))
+    (λ c. rw (bit-of (c .before .args .x % 8) (omega arith)) (omega (arith, bit-le (c .before .args .x % 8) (omega arith)))) returns-2)

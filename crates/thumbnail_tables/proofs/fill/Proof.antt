@@ -43,9 +43,6 @@ fill-same-requires c κs =
     let loop = c .before .before .before .before .before .before .before .loop in
     (omega arith, omega (arith, c .before .before .stretch .ensures .1 .0, loop .inv .1 .0))
 
-loop-less : tie.Need-loop-less Inv-loop μ-loop
-loop-less c = omega (arith, c .before .before .before .before .before .stretch .ensures .0)
-
 loop-again : tie.Need-loop-again Inv-loop μ-loop
 loop-again c =
     let fill-same = c .before .before .fill-same in let cell-of = c .before .before .before .cell-of in
@@ -74,6 +71,6 @@ pub fill-spec : {M : Type 1} → statement M
 fill-spec =
     tie.close
     (tie.spec
-    Inv-loop μ-loop loop-holds place-requires (λ c κs. tt) (λ c κs. tt) (λ c. omega arith) stretch-requires
-    (λ c. omega (arith, c .stretch .ensures .1 .0)) (λ c κs. tt) fill-same-requires loop-less loop-again (λ c. c .before .loop .inv .1 .0)
+    Inv-loop μ-loop loop-holds place-requires (λ c κs. tt) (λ c κs. tt) (λ c. omega arith) stretch-requires (λ c. omega (arith, c .stretch .ensures .1 .0))
+    (λ c κs. tt) fill-same-requires (λ c. omega (arith, c .before .before .before .before .before .stretch .ensures .0)) loop-again (λ c. c .before .loop .inv .1 .0)
     returns)

@@ -6,15 +6,10 @@ use borrow.Author.Needs.{needs}
 use Rattle.thumbnail_tables.proofs.reach.Statement.{statement}
 use Rattle.thumbnail_tables.proofs.reach.Tie as tie
 
-truncating-f64-to-u64-requires : tie.Need-truncating-f64-to-u64-requires
-truncating-f64-to-u64-requires c κs = cut-range _ (fails _ (c .before .if1 .left)) (true-is _ (c .if2 .taken))
-
-returns-2 : tie.Need-returns-2
-returns-2 c = rw (c .truncating-f64-to-u64 .ensures) (cut-le _ (true-is _ (c .before .if2 .taken)))
-
 pub reach-spec : {M : Type 1} → statement M
 reach-spec =
     tie.close
     (tie.spec
-    (λ c. search needs) (λ c. search needs) (λ c. search needs) (λ c. search needs) truncating-f64-to-u64-requires
-    returns-2 (λ c. search needs))
+    (λ c. search needs) (λ c. search needs) (λ c. search needs) (λ c. search needs)
+    (λ c κs. cut-range _ (fails _ (c .before .if1 .left)) (true-is _ (c .if2 .taken)))
+    (λ c. rw (c .truncating-f64-to-u64 .ensures) (cut-le _ (true-is _ (c .before .if2 .taken)))) (λ c. search needs))

@@ -11,9 +11,6 @@ use borrow.Author.Needs.{needs}
 use Rattle.thumbnail_tables.proofs.stretch.Statement.{statement}
 use Rattle.thumbnail_tables.proofs.stretch.Tie as tie
 
-returns : tie.Need-returns
-returns c = (omega arith, (omega arith, alone (c .before .args .scale) (c .before .args .t) (c .before .args .z) (c .before .pre .1)))
-
 returns-2 : tie.Need-returns-2
 returns-2 c =
     let start = c .before .before .before .before .before in
@@ -51,6 +48,6 @@ pub stretch-spec : {M : Type 1} → statement M
 stretch-spec =
     tie.close
     (tie.spec
-    returns (λ c κs. search needs) (λ c κs. search needs) (λ c κs. search needs) returns-2 (λ c κs. search needs)
-    returns-3 (λ c. search needs) (λ c κs. search needs) (λ c κs. search needs) (λ c κs. search needs) returns-4
-    returns-5)
+    (λ c. (omega arith, (omega arith, alone (c .before .args .scale) (c .before .args .t) (c .before .args .z) (c .before .pre .1)))) (λ c κs. search needs)
+    (λ c κs. search needs) (λ c κs. search needs) returns-2 (λ c κs. search needs) returns-3 (λ c. search needs) (λ c κs. search needs) (λ c κs. search needs)
+    (λ c κs. search needs) returns-4 returns-5)

@@ -3,9 +3,11 @@ use borrow.Author.Needs.{needs}
 use Prim.Native.Nat.{_<_, min}
 use native.Mathlib.Omega.{arith}
 use denote.Ref.{now}
-use lib.IntN.{pos}
+use lib.IntN.{pos, _-ℤ_}
 use lib.ListN.{length, getD}
+use mathlib.Core.Path.{_≡_}
 use mir.Syntax.{w32}
+use mir.Val.{toZ, ofZ}
 use mir.Facts.{toZ-ofZ}
 use Rattle.laws.specs.Ints.{ret, fit}
 use Rattle.laws.specs.Listing.{length-commands}
@@ -30,27 +32,28 @@ step-requires-2 c κs =
     let a = s .args in
     rw (ret w32 (getD (now (a .ys)) (a .i) (pos 0)) (c .step-arg2 .given), toZ-ofZ (s .fits .y)) (omega (arith, s .pre .0 .1 .y, most-at (pairStream (a .jef))))
 
+-- the step to the place, as the code has it
+moves : (c : tie.After-step2) → (
+    let a = c .before .before .before .before .before .before .before .before .args in
+    (toZ w32 (ofZ w32 (c .before .before .step .result)) ≡ getD (now (a .xs)) (a .i) (pos 0) -ℤ a .x) × (toZ w32 (ofZ w32 (c .step2 .result)) ≡ getD (now (a .ys)) (a .i) (pos 0) -ℤ a .y))
+moves c =
+    let first = c .before .before in
+    let s = c .before .before .before .before .before .before .before .before in
+    let a = s .args in (
+      stepped (first .step .ok) (first .step .ensures) (fit w32 (getD (now (a .xs)) (a .i) (pos 0)) (first .before .step-arg .given)) (s .fits .x),
+      stepped (c .step2 .ok) (c .step2 .ensures) (fit w32 (getD (now (a .ys)) (a .i) (pos 0)) (c .before .step-arg2 .given)) (s .fits .y),
+    )
+
 pair-cmd-requires : tie.Need-pair-cmd-requires
 pair-cmd-requires c κs =
-    let step′ = c .before .before .before .step in let step-arg = c .before .before .before .before .step-arg in
-    let op-of = c .before .before .before .before .before .op-of in
+    let m = moves (c .before) in
     let s = c .before .before .before .before .before .before .before .before .before in
-    let a = s .args in
-    let dx = stepped (step′ .ok) (step′ .ensures) (fit w32 (getD (now (a .xs)) (a .i) (pos 0)) (step-arg .given)) (s .fits .x) in
-    let dy = stepped (c .before .step2 .ok) (c .before .step2 .ensures) (fit w32 (getD (now (a .ys)) (a .i) (pos 0)) (c .before .before .step-arg2 .given)) (s .fits .y) in
-    rw (dx, dy, op-of .ensures) (s .pre .0 .1, s .pre .1)
+    rw (m .0, m .1, c .before .before .before .before .before .op-of .ensures) (s .pre .0 .1, s .pre .1)
 
 returns : tie.Need-returns
 returns c =
-    let step2 = c .before .before .before .before .step2 in let step-arg2 = c .before .before .before .before .before .step-arg2 in
-    let step′ = c .before .before .before .before .before .before .step in
-    let step-arg = c .before .before .before .before .before .before .before .step-arg in
-    let op-of = c .before .before .before .before .before .before .before .before .op-of in
-    let s = c .before .before .before .before .before .before .before .before .before .before .before .before in
-    let a = s .args in
-    let dx = stepped (step′ .ok) (step′ .ensures) (fit w32 (getD (now (a .xs)) (a .i) (pos 0)) (step-arg .given)) (s .fits .x) in
-    let dy = stepped (step2 .ok) (step2 .ensures) (fit w32 (getD (now (a .ys)) (a .i) (pos 0)) (step-arg2 .given)) (s .fits .y) in
-    rw (dx, dy, op-of .ensures) at (c .before .before .pair-cmd .ensures)
+    let m = moves (c .before .before .before .before) in
+    rw (m .0, m .1, c .before .before .before .before .before .before .before .before .op-of .ensures) at (c .before .before .pair-cmd .ensures)
 
 pub put-at-spec : {M : Type 1} → statement M
 put-at-spec =

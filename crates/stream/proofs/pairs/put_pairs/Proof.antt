@@ -1,21 +1,18 @@
 -- What is written is as far as the place; what comes is what the commands left take, from the place of the last.
 use mathlib.Core.Path.{_≡_, sym, _∙_}
-use mathlib.Core.List.{_++_}
 use Prim.Native.Nat.{_+_, _-_, _≤_, min}
 use native.Mathlib.Omega.{arith}
 use borrow.Author.Tests.{eqb-true}
 use denote.Ref.{now}
-use lib.IntN.{pos, _-ℤ_}
-use lib.ListN.{length, getD}
+use lib.ListN.{length}
 use mir.Syntax.{w32}
 use mir.Val.{toZ}
 use Rattle.rules.specs.Lists.{commands}
 use Rattle.rules.specs.Exp.{pairOf}
 use Rattle.stream_cmd.specs.Cmds.{pairStream}
 use Rattle.stream_cmd.proofs.Bytes.{stitch-pair, pair-step}
-use Rattle.laws.specs.Ints.{ret}
 use Rattle.laws.specs.Listing.{length-commands}
-use Rattle.stream.proofs.Stream.{Turn, Going, one-step, next-step, one-turn, two-stitches, going-start, going-room, going-on, going-done}
+use Rattle.stream.proofs.Stream.{Going, Two, readAt, one-step, one-turn, one-read, two-read, going-start, going-room, going-on, going-done}
 use Rattle.stream.proofs.pairs.put_pairs.Statement.{statement}
 use Rattle.stream.proofs.pairs.put_pairs.Tie as tie
 
@@ -37,54 +34,32 @@ loop-holds c =
     (n, (n ∙ length-commands (now (a .xs)) (now (a .ys)) (now (a .kinds)), (omega arith, whole)))
 
 -- the turn of two stitches
-both : (c : tie.Then1 Inv-loop μ-loop)
-    → (let head = c .before .before .before .before .before in
+two : (c : tie.After-put-two-arg3 Inv-loop μ-loop) → (
+    let head = c .before .before .before .before .before .before .before .before .before .before in
     let a = head .before .before .before .before .args in
     let loop = head .loop in
-    let x = toZ w32 (loop .x) in
-    let y = toZ w32 (loop .y) in
-    let nx = getD (now (a .xs)) (loop .i) (pos 0) in
-    let ny = getD (now (a .ys)) (loop .i) (pos 0) in
-    let mx = getD (now (a .xs)) (loop .i + 1) (pos 0) in
-    let my = getD (now (a .ys)) (loop .i + 1) (pos 0) in
-    Turn (pairStream (a .jef)) (now (a .xs)) (now (a .ys)) (now (a .kinds)) (loop .i) x y (pairOf (nx -ℤ x) (ny -ℤ y) ++ pairOf (mx -ℤ nx) (my -ℤ ny)) (loop .i + 1 + 1) mx my)
-both c =
-    let head = c .before .before .before .before .before in
-    let f = pairStream (head .before .before .before .before .args .jef) in
-    let zero = eqb-true _ _ (sym (c .before .are-stitches .ensures) ∙ c .if1 .taken) in
-    simp stitch-pair at (two-stitches {f = f} (head .loop .inv .1 .1 .1 .steps) (omega arith) zero)
+    let i = loop .i in
+    Two (pairStream (a .jef)) (now (a .xs)) (now (a .ys)) (now (a .kinds)) i (toZ w32 (loop .x)) (toZ w32 (loop .y))
+    (readAt (now (a .xs)) i) (readAt (now (a .ys)) i) (readAt (now (a .xs)) (i + 1)) (readAt (now (a .ys)) (i + 1)))
+two c =
+    let turn = c .before .before .before .before .before in
+    let zero = eqb-true _ _ (sym (turn .before .are-stitches .ensures) ∙ turn .if1 .taken) in
+    two-read (turn .before .before .before .before .before .loop .inv .1 .1 .1 .steps) (omega arith) zero
+    (c .before .before .put-two-arg .given) (c .before .put-two-arg2 .given) (c .before .before .before .before .mx .given) (c .before .before .before .my .given)
 
 put-two-requires : tie.Need-put-two-requires Inv-loop μ-loop
 unfolding pairOf
 put-two-requires c κs =
-    let turn = c .before .before .before .before .before in
-    let head = turn .before .before .before .before .before in
-    let s = head .before .before .before .before in
-    let a = s .args in
-    let loop = head .loop in
-    let g = loop .inv .1 .1 .1 in
-    let kx = ret w32 (getD (now (a .xs)) (loop .i) (pos 0)) (c .before .before .put-two-arg .given) in
-    let ky = ret w32 (getD (now (a .ys)) (loop .i) (pos 0)) (c .before .put-two-arg2 .given) in
-    let lx = ret w32 (getD (now (a .xs)) (loop .i + 1) (pos 0)) (c .before .before .before .before .mx .given) in
-    let ly = ret w32 (getD (now (a .ys)) (loop .i + 1) (pos 0)) (c .before .before .before .my .given) in
-    let first = pair-step (a .jef) (one-step (g .steps) (omega arith)) in
-    let second = pair-step (a .jef) (next-step (g .steps) (omega arith)) in
-    rw (kx, ky, lx, ly) (first, (second, going-room g (both turn)))
+    let head = c .before .before .before .before .before .before .before .before .before .before in
+    let jef = head .before .before .before .before .args .jef in
+    let t = two c in
+    (pair-step jef (t .first), (pair-step jef (t .second), going-room (head .loop .inv .1 .1 .1) (simp stitch-pair at (t .turn))))
 
 loop-again : tie.Need-loop-again Inv-loop μ-loop
 loop-again c =
-    let turn = c .before .before .before .before .before .before .before .before in
-    let head = turn .before .before .before .before .before in
-    let s = head .before .before .before .before in
-    let a = s .args in
-    let loop = head .loop in
-    let g = loop .inv .1 .1 .1 in
-    let kx = ret w32 (getD (now (a .xs)) (loop .i) (pos 0)) (c .before .before .before .before .before .put-two-arg .given) in
-    let ky = ret w32 (getD (now (a .ys)) (loop .i) (pos 0)) (c .before .before .before .before .put-two-arg2 .given) in
-    let lx = ret w32 (getD (now (a .xs)) (loop .i + 1) (pos 0)) (c .before .before .before .before .before .before .before .mx .given) in
-    let ly = ret w32 (getD (now (a .ys)) (loop .i + 1) (pos 0)) (c .before .before .before .before .before .before .my .given) in
-    let put = rw (kx, ky, lx, ly) at (c .before .before .put-two .ensures) in
-    rw (lx, ly) (loop .inv .0, (loop .inv .1 .0, (omega arith, going-on g (both turn) put)))
+    let asked = c .before .before .before in
+    let inv = asked .before .before .before .before .before .before .before .before .before .before .loop .inv in
+    (inv .0, (inv .1 .0, (omega arith, going-on (inv .1 .1 .1) (simp stitch-pair at (two asked .turn)) (c .before .before .put-two .ensures))))
 
 put-at-requires : tie.Need-put-at-requires Inv-loop μ-loop
 put-at-requires c κs =
@@ -95,15 +70,10 @@ put-at-requires c κs =
 
 loop-again-2 : tie.Need-loop-again-2 Inv-loop μ-loop
 loop-again-2 c =
-    let put-at = c .before .before .before .before .put-at in let turn = c .before .before .before .before .before .before in
-    let head = turn .before .before .before .before .before in
-    let s = head .before .before .before .before in
-    let a = s .args in
-    let loop = head .loop in
-    let g = loop .inv .1 .1 .1 in
-    let kx = ret w32 (getD (now (a .xs)) (loop .i) (pos 0)) (c .before .x .given) in
-    let ky = ret w32 (getD (now (a .ys)) (loop .i) (pos 0)) (c .y .given) in
-    rw (kx, ky) (loop .inv .0, (loop .inv .1 .0, (omega arith, going-on g (one-turn (g .steps) (omega arith)) (put-at .ensures))))
+    let inv = c .before .before .before .before .before .before .before .before .before .before .before .loop .inv in
+    let g = inv .1 .1 .1 in
+    let t = one-read (g .steps) (omega arith) (c .before .x .given) (c .y .given) in
+    (inv .0, (inv .1 .0, (omega arith, going-on g t (c .before .before .before .before .put-at .ensures))))
 
 put-at-requires-2 : tie.Need-put-at-requires-2 Inv-loop μ-loop
 put-at-requires-2 c κs =
