@@ -3,6 +3,7 @@
 use emit::put;
 use emit::put_name;
 use emit::put_right;
+use emit::put_text;
 use emit::put_times;
 use emit::put2;
 use emit::put3;
@@ -27,7 +28,7 @@ ghost use mathlib.Core.Bool.{false};
 ghost use Prim.Native.Nat.{_+_, _-_, _≤_};
 ghost use lib.Dec.{eqb};
 ghost use lib.IntN.{pos, natAbs};
-ghost use lib.ListN.{length, getD};
+ghost use lib.ListN.{length, getD, replicate};
 ghost use lib.Signed.{nonNeg};
 ghost use Rattle.rules.specs.Vocabulary.{pick, count, padded, right};
 ghost use Rattle.rules.specs.Lists.{commands, opOf, isTrim, dstName};
@@ -174,6 +175,15 @@ fn put_text_of(name: &[u8], xs: &[i32], ys: &[i32], kinds: &[u8], out: &mut [u8]
     put_end(out, fifth)
 }
 
+// Blanks behind the text, up to the header's 512 bytes.
+fn put_blanks(out: &mut [u8], at: usize) -> usize
+    requires { ⌜ at + 387 ≤ length (now out) ⌝ }
+    ensures { λ r. ⌜ Puts out at r (replicate 387 0x20) ⌝ }
+{
+    let blanks = [0x20u8; 387];
+    put_text(out, at, &blanks)
+}
+
 // A whole file: the text, blanks up to 512, the records.
 fn put_file(name: &[u8], xs: &[i32], ys: &[i32], kinds: &[u8], out: &mut [u8]) -> usize
     requires { ⌜ (length (now kinds) ≤ 65535) × (stepTooLong Dst (commands (now xs) (now ys) (now kinds)) ≡ false) ⌝ }
@@ -181,7 +191,7 @@ fn put_file(name: &[u8], xs: &[i32], ys: &[i32], kinds: &[u8], out: &mut [u8]) -
     ensures { λ r. ⌜ Puts out 0 r (dstFile (was name) (commands (was xs) (was ys) (was kinds))) ⌝ }
 {
     let blanks = put_text_of(name, xs, ys, kinds, out);
-    let records = put_times(out, blanks, 0x20, 387);
+    let records = put_blanks(out, blanks);
     put_stream(Stream::Dst, xs, ys, kinds, out, records)
 }
 

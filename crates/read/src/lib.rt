@@ -1,6 +1,8 @@
 // Reading: a file of any of the five formats, into three lent buffers.
 // A port of src/formats/read.rs of zigzag, changed.
 use formats::extension_of;
+use read_count::count;
+use read_fill::fill;
 use read_header::Word;
 use read_header::dst_colors;
 use read_header::i32le;
@@ -8,8 +10,6 @@ use read_header::jef_colors;
 use read_header::part;
 use read_header::pec_colors;
 use read_passes::ample;
-use read_passes::count;
-use read_passes::fill;
 use read_refusals::Opening;
 use read_refusals::front;
 use rules::BLOCK_CELLS;

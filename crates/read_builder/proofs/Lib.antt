@@ -2,7 +2,6 @@
 pub mod Parts
 pub mod Colours
 pub mod Places
-pub mod Sewn
 pub mod Lent
 pub mod Methods
 pub mod Lenders

@@ -41,29 +41,6 @@ abbrev pub opening : ℕ → ℕ
 opening zero = 1
 opening (suc n) = 0
 
--- after k stitches, one at least, the last to (x, y)
-abbrev pub ahead : ℕ → Builder → ℤ → ℤ → Builder
-ahead k b x y = record {
-  x = x;
-  y = y;
-  run = b .run + k + opening (b .run);
-  block = b .block;
-  begun = b .begun + opening (b .run);
-  points = b .points + k + opening (b .run);
-  runs = b .runs;
-  blocks = b .blocks;
-}
-
--- after k stitches
-abbrev pub sewn : ℕ → Builder → ℤ → ℤ → Builder
-sewn zero b x y = b
-sewn (suc k) b x y = ahead (suc k) b x y
-
--- the place that the first of k stitches leaves, where it opens a run
-abbrev pub startBy : ℕ → Builder → List ℤ
-startBy zero b = []
-startBy (suc k) b = startOf (b .run) (b .x) (b .y)
-
 abbrev pub jumped : Builder → ℤ → ℤ → Builder
 jumped b x y = record {
   x = x;

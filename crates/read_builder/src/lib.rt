@@ -8,8 +8,8 @@ use rules::Record;
 ghost use mathlib.Core.Path.{_≡_};
 ghost use Prim.Native.Nat.{_+_, _^_, _<_, _≤_};
 ghost use lib.IntN.{natAbs, _+ℤ_};
-ghost use Rattle.read_records.specs.Fields.{lenOf, dxOf, dyOf};
-ghost use Rattle.read_builder.specs.Builders.{Small, Counted, origin, stitched, jumped, changed, followed, finished, some, opening, sewn, placeAfter};
+ghost use Rattle.read_records.specs.Fields.{lenOf};
+ghost use Rattle.read_builder.specs.Builders.{Small, Counted, origin, stitched, jumped, changed, finished, some, opening, placeAfter};
 ghost use Rattle.rules.specs.Promises.{was, left};
 
 // The place; the points of the open run, 0 where none is open; the number of the block and the runs begun in it; and all points,
@@ -50,7 +50,7 @@ pub fn sum(a: i32, b: i32) -> i32
 }
 
 // 1 where the next stitch opens a run: the open one has n points, 0 where there is none.
-pub fn opens(n: u32) -> u32
+fn opens(n: u32) -> u32
     ensures { λ r. ⌜ r ≡ opening n ⌝ }
 {
     if n == 0 {
@@ -59,34 +59,22 @@ pub fn opens(n: u32) -> u32
     0
 }
 
-// The builder after n stitches, the last to (x, y). The first opens a run, of two points, if none is open.
-pub fn after_stitches(b: Builder, n: u32, x: i32, y: i32) -> Builder
-    requires { ⌜ Small b ⌝ }
-    requires { ⌜ n < 2 ^ 31 ⌝ }
-    ensures { λ r. ⌜ r ≡ sewn n b x y ⌝ }
-{
-    if n == 0 {
-        return b;
-    }
-    let o = opens(b.run);
-    Builder {
-        x,
-        y,
-        run: b.run + n + o,
-        block: b.block,
-        begun: b.begun + o,
-        points: b.points + n + o,
-        runs: b.runs,
-        blocks: b.blocks,
-    }
-}
-
-// The same of one stitch.
+// The builder after a stitch to (x, y), which opens a run, of two points, if none is open.
 pub fn after_stitch(b: Builder, x: i32, y: i32) -> Builder
     requires { ⌜ Small b ⌝ }
     ensures { λ r. ⌜ r ≡ stitched b x y ⌝ }
 {
-    after_stitches(b, 1, x, y)
+    let o = opens(b.run);
+    Builder {
+        x,
+        y,
+        run: b.run + 1 + o,
+        block: b.block,
+        begun: b.begun + o,
+        points: b.points + 1 + o,
+        runs: b.runs,
+        blocks: b.blocks,
+    }
 }
 
 // 1 for a run that is open, or a block with runs.
@@ -185,19 +173,6 @@ pub fn color_change(b: Builder, x: i32, y: i32) -> Builder
     c
 }
 
-// What a record makes of the builder, where it reaches (x, y). The end leaves it as it is.
-pub fn follow(b: Builder, r: Record, x: i32, y: i32) -> Builder
-    requires { ⌜ Small b ⌝ }
-    ensures { λ q. ⌜ q ≡ followed b r x y ⌝ }
-{
-    match r {
-        Record::StitchBy { .. } => stitch(b, x, y),
-        Record::JumpBy { .. } => jump(b, x, y),
-        Record::ChangeBy { .. } => color_change(b, x, y),
-        Record::Finish => b,
-    }
-}
-
 // Nothing more comes: the open run and its block end.
 pub fn finish(b: Builder) -> Builder
     requires { ⌜ Small b ⌝ }
@@ -229,27 +204,5 @@ pub fn place_after(r: Record, at: usize, n: usize) -> usize
         Record::JumpBy { len, .. } => at + len,
         Record::ChangeBy { len, .. } => at + len,
         Record::Finish => n,
-    }
-}
-
-pub fn dx_of(r: Record) -> i32
-    ensures { λ z. ⌜ z ≡ dxOf r ⌝ }
-{
-    match r {
-        Record::StitchBy { dx, .. } => dx,
-        Record::JumpBy { dx, .. } => dx,
-        Record::ChangeBy { dx, .. } => dx,
-        Record::Finish => 0,
-    }
-}
-
-pub fn dy_of(r: Record) -> i32
-    ensures { λ z. ⌜ z ≡ dyOf r ⌝ }
-{
-    match r {
-        Record::StitchBy { dy, .. } => dy,
-        Record::JumpBy { dy, .. } => dy,
-        Record::ChangeBy { dy, .. } => dy,
-        Record::Finish => 0,
     }
 }

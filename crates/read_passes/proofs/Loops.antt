@@ -6,7 +6,7 @@ use native.Mathlib.Nat.{zero-add}
 use native.Mathlib.Omega.{arith}
 use lib.IntN.{ℤ, pos, natAbs, _+ℤ_}
 use lib.ListN.{length, drop, length-drop, length-append}
-use lib.Seq.{sets, drop-drop}
+use lib.Seq.{sets, length-sets, drop-drop}
 use Rattle.rules.specs.Answers.{places, runs, blocks, runOf, blockOf}
 use Rattle.rules.specs.Limits.{blockCells}
 use Rattle.rules.specs.Files.{filled}
@@ -22,39 +22,32 @@ use Rattle.laws.specs.Ints.{abs-add}
 use Rattle.laws.specs.Reading.{events-step, read-finish}
 use Rattle.read_records.proofs.Formats.{Near, near, inside}
 use Rattle.read_records.specs.Fields.{lenOf, dxOf, dyOf}
-use Rattle.read_builder.proofs.Parts.{in-run, run-cells, block-cells}
-use Rattle.read_builder.proofs.Sewn.{sewn-next}
-use Rattle.read_builder.specs.Builders.{origin, sewn, opening, startBy, followed, finished, placeAfter, placesBy, runsBy, blocksBy, Counted, Small, Reach, Holds}
+use Rattle.read_builder.proofs.Parts.{run-cells, block-cells}
+use Rattle.read_builder.specs.Builders.{origin, followed, finished, placeAfter, placesBy, runsBy, blocksBy, Counted, Small, Reach, Holds}
 use Rattle.read_builder.specs.declared.Builder.{Builder}
-use Rattle.read_passes.specs.Stretches.{Stitches, none, more, reached, placesOf, Drawn, Short}
 use Rattle.read_passes.specs.Told.{placesIn, runsIn, blocksIn, Told, Fits}
-use Rattle.read_passes.specs.declared.stretch.Stretch.{Stretch}
-use Rattle.read_passes.proofs.Stretches.{here, span, reached-within, sewn-cells, stretch-cells, start-late}
-use Rattle.read_passes.proofs.Turns.{placesLeft, runsLeft, blocksLeft, eventsAfter, moved, places-next, runs-next, blocks-next, points-by, runs-by, blocks-by}
-use Rattle.read_passes.proofs.Turns.{left-anywhere, any-colours, Bounded, bounded-next}
+use Rattle.read_passes.specs.Walks.{placesLeft, runsLeft, blocksLeft, moved, Bounded, eventsFrom, Counting, Ready, Went, none, on, Ended}
+use Rattle.read_passes.proofs.Turns.{eventsAfter, places-next, runs-next, blocks-next, points-by, runs-by, blocks-by, left-anywhere, any-colours, bounded-next}
+
+-- buffers that keep their lengths
+pub record Same (P : List ℤ) (R B : List ℕ) (P′ : List ℤ) (R′ B′ : List ℕ) : Type 0 where
+  pub places : length P′ ≡ length P
+  pub runs : length R′ ≡ length R
+  pub blocks : length B′ ≡ length B
 
 module _ (f : Format) (bytes : List ℕ) where
-  -- the events from `at` on
-  abbrev eventsFrom : ℕ → List Event
-  eventsFrom at = events (firstOf f) (drop at bytes)
+  abbrev coming : ℕ → List Event
+  coming at = eventsFrom f bytes at
 
   -- the pass that writes: P₀ R₀ B₀ are the buffers at first, P R B the buffers now; c gives a block's colour
   pub record Filling (c : ℕ → ℕ) (P₀ : List ℤ) (R₀ B₀ : List ℕ) (P : List ℤ) (R B : List ℕ) (b : Builder) (at : ℕ) : Type 0 where
-    pub places : Writing P₀ 0 (placesIn (firstOf f) bytes) P (2 * b .points) (placesLeft b (eventsFrom at))
-    pub runs : Writing R₀ 0 (runsIn (firstOf f) bytes) R (b .runs) (runsLeft b (eventsFrom at))
-    pub blocks : Writing B₀ 0 (blocksIn c (firstOf f) bytes) B (blockCells * b .blocks) (blocksLeft c b (eventsFrom at))
+    pub places : Writing P₀ 0 (placesIn (firstOf f) bytes) P (2 * b .points) (placesLeft b (coming at))
+    pub runs : Writing R₀ 0 (runsIn (firstOf f) bytes) R (b .runs) (runsLeft b (coming at))
+    pub blocks : Writing B₀ 0 (blocksIn c (firstOf f) bytes) B (blockCells * b .blocks) (blocksLeft c b (coming at))
     pub bounded : Bounded b at
     pub within : at ≤ length bytes
 
-  -- the pass that counts
-  pub record Counting (b : Builder) (at : ℕ) : Type 0 where
-    pub places : 2 * b .points + length (placesLeft b (eventsFrom at)) ≡ length (placesIn (firstOf f) bytes)
-    pub runs : b .runs + length (runsLeft b (eventsFrom at)) ≡ length (runsIn (firstOf f) bytes)
-    pub blocks : (c : ℕ → ℕ) → blockCells * b .blocks + length (blocksLeft c b (eventsFrom at)) ≡ length (blocksIn c (firstOf f) bytes)
-    pub bounded : Bounded b at
-    pub within : at ≤ length bytes
-
-  pub counting-start : Counting origin 0
+  pub counting-start : Counting f bytes origin 0
   counting-start = record { places = zero-add _; runs = zero-add _; blocks = λ c. zero-add _; bounded = omega arith; within = omega arith }
 
   pub filling-start : {c : ℕ → ℕ} (P : List ℤ) (R B : List ℕ) → Fits c (firstOf f) bytes (length P) (length R) (length B) → Filling c P R B P R B origin 0
@@ -74,7 +67,7 @@ module _ (f : Format) (bytes : List ℕ) where
   no-record (ChangeBy dx dy n) h = absurd (omega (arith, h .fair, h .len))
   no-record Finish h = refl
 
-  pub ended : (at : ℕ) → length bytes ≤ at → eventsFrom at ≡ []
+  pub ended : (at : ℕ) → length bytes ≤ at → coming at ≡ []
   ended at h =
       let z : length (drop at bytes) ≡ 0 = length-drop at bytes ∙ omega arith in
       read-finish (firstOf f) (inside f) (drop at bytes) (no-record (firstOf f (drop at bytes)) (rw z at (near f (drop at bytes))))
@@ -89,15 +82,15 @@ module _ (f : Format) (bytes : List ℕ) where
 
   module _ (at : ℕ) {r : Record} (e : r ≡ firstOf f (drop at bytes)) where
     this : Near r (length (drop at bytes))
-    this = here f bytes at e
+    this = rw e (near f (drop at bytes))
 
-    behind : (s : Record) → eventsAfter s (λ n. eventsFrom (at + n)) ≡ eventsFrom (placeAfter s at (length bytes))
+    behind : (s : Record) → eventsAfter s (λ n. coming (at + n)) ≡ coming (placeAfter s at (length bytes))
     behind (StitchBy dx dy n) = refl
     behind (JumpBy dx dy n) = refl
     behind (ChangeBy dx dy n) = refl
     behind Finish = sym (ended (length bytes) (omega arith))
 
-    now-then : eventsFrom at ≡ recordThen r (λ n. eventsFrom (at + n))
+    now-then : coming at ≡ recordThen r (λ n. coming (at + n))
     now-then = rw (e, events-step (firstOf f) (inside f) (drop at bytes)) (simp drop-drop)
 
     -- the record ends in the bytes, and the measure of the loop falls
@@ -110,15 +103,14 @@ module _ (f : Format) (bytes : List ℕ) where
     next-within (ChangeBy dx dy n) h = h
     next-within Finish h = omega arith
 
-    next-less : (s : Record) → Near s (length (drop at bytes)) → (from : ℕ) → from ≤ at → from < length bytes → length bytes - placeAfter s at (length bytes) < length bytes - from
-    next-less (StitchBy dx dy n) h from i l = omega (arith, h .fair, h .len, length-drop at bytes)
-    next-less (JumpBy dx dy n) h from i l = omega (arith, h .fair, h .len, length-drop at bytes)
-    next-less (ChangeBy dx dy n) h from i l = omega (arith, h .fair, h .len, length-drop at bytes)
-    next-less Finish h from i l = omega arith
+    next-later : (s : Record) → Near s (length (drop at bytes)) → at < length bytes → at < placeAfter s at (length bytes)
+    next-later (StitchBy dx dy n) h l = omega (arith, h .fair, h .len, length-drop at bytes)
+    next-later (JumpBy dx dy n) h l = omega (arith, h .fair, h .len, length-drop at bytes)
+    next-later (ChangeBy dx dy n) h l = omega (arith, h .fair, h .len, length-drop at bytes)
+    next-later Finish h l = l
 
-    -- the turn began at `from`
-    pub less : {n : ℕ} (from : ℕ) → n ≡ placeAfter r at (length bytes) → from ≤ at → from < length bytes → length bytes - n < length bytes - from
-    less from en i l = rw en (next-less r this from i l)
+    pub later : at < length bytes → at < placeAfter r at (length bytes)
+    later l = next-later r this l
 
     module _ {b : Builder} (w : Bounded b at) (i : at ≤ length bytes) where
       pub reach : length bytes ≤ 2097152 → Reach b (dxOf r) (dyOf r)
@@ -132,14 +124,14 @@ module _ (f : Format) (bytes : List ℕ) where
           (omega (arith, w, this .dx, abs-add (b .x) (dxOf r))) (omega (arith, w, this .dy, abs-add (b .y) (dyOf r)))
 
     module _ (b : Builder) where
-      to-places : placesLeft b (eventsFrom at) ≡ placesBy b r ++ placesLeft (moved b r) (eventsFrom (placeAfter r at (length bytes)))
-      to-places = ap (placesLeft b) now-then ∙ places-next b r (λ n. eventsFrom (at + n)) ∙ rw (behind r)
+      to-places : placesLeft b (coming at) ≡ placesBy b r ++ placesLeft (moved b r) (coming (placeAfter r at (length bytes)))
+      to-places = ap (placesLeft b) now-then ∙ places-next b r (λ n. coming (at + n)) ∙ rw (behind r)
 
-      to-runs : (x y : ℤ) → runsLeft b (eventsFrom at) ≡ runsBy b r ++ runsLeft (followed b r x y) (eventsFrom (placeAfter r at (length bytes)))
-      to-runs x y = ap (runsLeft b) now-then ∙ runs-next b r x y (λ n. eventsFrom (at + n)) ∙ rw (behind r)
+      to-runs : (x y : ℤ) → runsLeft b (coming at) ≡ runsBy b r ++ runsLeft (followed b r x y) (coming (placeAfter r at (length bytes)))
+      to-runs x y = ap (runsLeft b) now-then ∙ runs-next b r x y (λ n. coming (at + n)) ∙ rw (behind r)
 
-      to-blocks : (c : ℕ → ℕ) (x y : ℤ) → blocksLeft c b (eventsFrom at) ≡ blocksBy c b r ++ blocksLeft c (followed b r x y) (eventsFrom (placeAfter r at (length bytes)))
-      to-blocks c x y = ap (blocksLeft c b) now-then ∙ blocks-next b c r x y (λ n. eventsFrom (at + n)) ∙ rw (behind r)
+      to-blocks : (c : ℕ → ℕ) (x y : ℤ) → blocksLeft c b (coming at) ≡ blocksBy c b r ++ blocksLeft c (followed b r x y) (coming (placeAfter r at (length bytes)))
+      to-blocks c x y = ap (blocksLeft c b) now-then ∙ blocks-next b c r x y (λ n. coming (at + n)) ∙ rw (behind r)
 
       module _ {c : ℕ → ℕ} {P₀ : List ℤ} {R₀ B₀ : List ℕ} {P : List ℤ} {R B : List ℕ} (g : Filling c P₀ R₀ B₀ P R B b at) where
         pub holds : Holds c b r (length P) (length R) (length B)
@@ -168,8 +160,8 @@ module _ (f : Format) (bytes : List ℕ) where
         filling-again eq eP eR eB en = rw (eq, eP, eR, eB, en) filling-next
 
       -- counting stays at (0, 0)
-      module _ (g : Counting b at) where
-        pub counting-again : {q : Builder} {n : ℕ} → q ≡ followed b r (pos 0) (pos 0) → n ≡ placeAfter r at (length bytes) → Counting q n
+      module _ (g : Counting f bytes b at) where
+        pub counting-again : {q : Builder} {n : ℕ} → q ≡ followed b r (pos 0) (pos 0) → n ≡ placeAfter r at (length bytes) → Counting f bytes q n
         counting-again eq en = rw (eq, en) (record {
           places =
               omega (
@@ -177,7 +169,7 @@ module _ (f : Format) (bytes : List ℕ) where
                 g .places,
                 points-by b r (pos 0) (pos 0),
                 simp length-append at (ap length to-places),
-                left-anywhere b r (b .x +ℤ dxOf r) (b .y +ℤ dyOf r) (pos 0) (pos 0) (eventsFrom (placeAfter r at (length bytes))),
+                left-anywhere b r (b .x +ℤ dxOf r) (b .y +ℤ dyOf r) (pos 0) (pos 0) (coming (placeAfter r at (length bytes))),
               );
           runs = omega (arith, g .runs, runs-by b r (pos 0) (pos 0), simp length-append at (ap length (to-runs (pos 0) (pos 0))));
           blocks = λ c. omega (arith, g .blocks c, blocks-by b c r (pos 0) (pos 0), simp length-append at (ap length (to-blocks c (pos 0) (pos 0))));
@@ -185,63 +177,99 @@ module _ (f : Format) (bytes : List ℕ) where
           within = next-within r (stays (g .within));
         })
 
-  -- ---- the stitches of a stretch, one after the other
-
-  pub counting-on : {b : Builder} {from at k : ℕ} → Counting b from → Stitches f bytes from at k → Counting (sewn k b (pos 0) (pos 0)) at
-  counting-on g none = g
-  counting-on {b} g (more {at = at} {k = k} s e) = counting-again at e (sewn k b (pos 0) (pos 0)) (counting-on g s) (sewn-next k b (pos 0) (pos 0) (pos 0) (pos 0)) refl
-
-  module _ {b : Builder} {from : ℕ} {c : ℕ → ℕ} {P₀ : List ℤ} {R₀ B₀ : List ℕ} {P : List ℤ} {R B : List ℕ} (g : Filling c P₀ R₀ B₀ P R B b from) where
+  module _ {b : Builder} {start : ℕ} {c : ℕ → ℕ} {P₀ : List ℤ} {R₀ B₀ : List ℕ} {P : List ℤ} {R B : List ℕ} (g : Filling c P₀ R₀ B₀ P R B b start) where
     -- what is written is counted
-    counted : Counting b from
+    counted : Counting f bytes b start
     counted = record {
       places = omega (arith, g .places .place);
       runs = omega (arith, g .runs .place);
-      blocks = λ c′. omega (arith, g .blocks .place, any-colours c c′ (b .block) (b .begun) (b .run) (eventsFrom from), any-colours c c′ 0 0 0 (events (firstOf f) bytes));
+      blocks = λ c′. omega (arith, g .blocks .place, any-colours c c′ (b .block) (b .begun) (b .run) (eventsFrom f bytes start), any-colours c c′ 0 0 0 (events (firstOf f) bytes));
       bounded = g .bounded;
       within = g .within;
     }
 
-    -- room for the places of any stretch that stands here, and for the place before it
-    pub stretch-room : (at k : ℕ) → Stitches f bytes from at (suc k) → 2 * (b .points + opening (b .run) + suc k) ≤ length P
-    stretch-room at k s = omega (arith, counting-on counted s .places, g .places .room, g .places .same)
+  -- ---- room for all that is to come, and so many records later
 
-    pub start-room : {at k : ℕ} → Stitches f bytes from at k → 2 * b .points + length (startBy k b) ≤ length P
-    start-room {k = k} s = omega (arith, counting-on counted s .places, g .places .room, g .places .same, sewn-cells k b (pos 0) (pos 0))
+  module _ (c : ℕ → ℕ) where
+    pub ready-start : {np nr nb : ℕ} → Fits c (firstOf f) bytes np nr nb → length bytes ≤ 2097152 → Ready f bytes c origin 0 np nr nb
+    ready-start fit s = record {
+      places = omega (arith, fit .places);
+      runs = omega (arith, fit .runs);
+      blocks = omega (arith, fit .blocks);
+      bounded = omega arith;
+      within = omega arith;
+      short = s;
+    }
 
-    filling-on : {at k : ℕ} (s : Stitches f bytes from at k)
-        → Filling c P₀ R₀ B₀ (sets P (2 * b .points) (startBy k b ++ placesOf (b .x) (b .y) s)) R B (sewn k b (reached dxOf (b .x) s) (reached dyOf (b .y) s)) at
-    unfolding reached placesOf
-    filling-on none = g
-    filling-on (more none e) = filling-again from e b g (sewn-next 0 b _ _ (b .x) (b .y)) refl refl refl refl
-    filling-on (more {at = at} (more {k = k} s e′) e) =
-        let x = reached dxOf (b .x) (more s e′) in
-        let y = reached dyOf (b .y) (more s e′) in
-        let q = sewn (suc k) b x y in
-        let w = in-run (q .run) (λ h. omega arith) in
-        let ps = placesOf (b .x) (b .y) (more s e′) in
-        filling-again at e q (filling-on (more s e′)) (sewn-next (suc k) b _ _ x y)
-        (rw (w .start x y, ← append-assoc (startBy (suc k) b) ps, sets-append P (2 * b .points) (startBy (suc k) b ++ ps), stretch-cells b (b .x) (b .y) x y (more s e′))) refl refl refl
+    module _ {b : Builder} {at np nr nb : ℕ} (g : Ready f bytes c b at np nr nb) where
+      pub ready-small : Small b
+      ready-small = omega (arith, g .bounded, g .within, g .short)
 
-    -- by what the calls gave: t is what `draw_plain` answered
-    module _ {t : Stretch} {P₁ : List ℤ} (d : Drawn f bytes from (b .x) (b .y) (b .points + opening (b .run)) P P₁ t) where
-      pub short : length bytes ≤ 2097152 → Short t
-      short l =
-          let w = span f bytes (d .stitches) (g .within) in
+      module _ {r : Record} (e : r ≡ firstOf f (drop at bytes)) where
+        pub ready-reach : Reach b (dxOf r) (dyOf r)
+        ready-reach = reach at e (g .bounded) (g .within) (g .short)
+
+        pub ready-holds : Holds c b r np nr nb
+        ready-holds = record {
+          places = omega (arith, g .places, simp length-append at (ap length (to-places at e b)));
+          runs = omega (arith, g .runs, simp length-append at (ap length (to-runs at e b (b .x) (b .y))));
+          blocks = omega (arith, g .blocks, simp length-append at (ap length (to-blocks at e b c (b .x) (b .y))));
+        }
+
+        pub ready-next : Ready f bytes c (moved b r) (placeAfter r at (length bytes)) np nr nb
+        ready-next =
+            let x = b .x +ℤ dxOf r in
+            let y = b .y +ℤ dyOf r in
+            record {
+              places = omega (arith, g .places, points-by b r x y, simp length-append at (ap length (to-places at e b)));
+              runs = omega (arith, g .runs, runs-by b r x y, simp length-append at (ap length (to-runs at e b x y)));
+              blocks = omega (arith, g .blocks, blocks-by b c r x y, simp length-append at (ap length (to-blocks at e b c x y)));
+              bounded = moved-bounded at e (g .bounded) (g .within);
+              within = next-within at e r (stays at e (g .within));
+              short = g .short;
+            }
+
+    module _ {b : Builder} {at : ℕ} {P : List ℤ} {R B : List ℕ} where
+      pub went-same : {q : Builder} {i : ℕ} {P′ : List ℤ} {R′ B′ : List ℕ} → Went f bytes c b at P R B q i P′ R′ B′ → Same P R B P′ R′ B′
+      went-same none = record { places = refl; runs = refl; blocks = refl }
+      went-same (on {q = q} {P′ = P′} {R′ = R′} {B′ = B′} w r e) =
+          let h = went-same w in
           record {
-            x = rw (d .tx) (omega (arith, w, reached-within f bytes dxOf (λ r n m. m .dx) (b .x) (g .bounded .x) (d .stitches)));
-            y = rw (d .ty) (omega (arith, w, reached-within f bytes dyOf (λ r n m. m .dy) (b .y) (g .bounded .y) (d .stitches)));
-            count = omega (arith, w);
+            places = length-sets P′ (2 * q .points) (placesBy q r) ∙ h .places;
+            runs = length-sets R′ (q .runs) (runsBy q r) ∙ h .runs;
+            blocks = length-sets B′ (blockCells * q .blocks) (blocksBy c q r) ∙ h .blocks;
           }
 
-      pub stretch-on : {q : Builder} {P₂ : List ℤ} → q ≡ sewn (t .count) b (t .x) (t .y) → P₂ ≡ sets P₁ (2 * b .points) (startBy (t .count) b)
-          → Filling c P₀ R₀ B₀ P₂ R B q (t .at)
-      stretch-on eq eP = rw (eq, eP, d .stored, d .tx, d .ty, start-late P b (b .x) (b .y) (d .stitches)) (filling-on (d .stitches))
+      pub ready-on : {np nr nb : ℕ} → Ready f bytes c b at np nr nb → {q : Builder} {i : ℕ} {P′ : List ℤ} {R′ B′ : List ℕ}
+          → Went f bytes c b at P R B q i P′ R′ B′ → Ready f bytes c q i np nr nb
+      ready-on g none = g
+      ready-on g (on w r e) = ready-next (ready-on g w) e
+
+      filling-on : {P₀ : List ℤ} {R₀ B₀ : List ℕ} → Filling c P₀ R₀ B₀ P R B b at → {q : Builder} {i : ℕ} {P′ : List ℤ} {R′ B′ : List ℕ}
+          → Went f bytes c b at P R B q i P′ R′ B′ → Filling c P₀ R₀ B₀ P′ R′ B′ q i
+      filling-on g none = g
+      filling-on g (on {q = q} {i = i} w r e) = filling-next i e q (filling-on g w)
+
+      module _ {q : Builder} {i : ℕ} {P′ : List ℤ} {R′ B′ : List ℕ} (w : Went f bytes c b at P R B q i P′ R′ B′) where
+        -- some records, and some more
+        pub went-on : {q₂ : Builder} {i₂ : ℕ} {P₂ : List ℤ} {R₂ B₂ : List ℕ} → Went f bytes c q i P′ R′ B′ q₂ i₂ P₂ R₂ B₂
+            → Went f bytes c b at P R B q₂ i₂ P₂ R₂ B₂
+        went-on none = w
+        went-on (on v r e) = on (went-on v) r e
+
+        pub ended-on : {q₂ : Builder} {P₂ : List ℤ} {R₂ B₂ : List ℕ} → Ended f bytes c q i P′ R′ B′ q₂ P₂ R₂ B₂ → Ended f bytes c b at P R B q₂ P₂ R₂ B₂
+        ended-on v = record { end = v .end; past = v .past; went = went-on (v .went) }
+
+        -- one more, by what the calls gave
+        pub one-on : {r : Record} → r ≡ firstOf f (drop i bytes) → {q₂ : Builder} {i₂ : ℕ} {P₂ : List ℤ} {R₂ B₂ : List ℕ} → q₂ ≡ moved q r
+            → i₂ ≡ placeAfter r i (length bytes) → P₂ ≡ sets P′ (2 * q .points) (placesBy q r) → R₂ ≡ sets R′ (q .runs) (runsBy q r)
+            → B₂ ≡ sets B′ (blockCells * q .blocks) (blocksBy c q r) → Went f bytes c b at P R B q₂ i₂ P₂ R₂ B₂
+        one-on {r} e eq ei eP eR eB = rw (eq, ei, eP, eR, eB) (on w r e)
 
   -- ---- at the end
 
   module _ {b : Builder} {at : ℕ} (h : length bytes ≤ at) where
-    counting-end : {k : Counts} → Counting b at → Counted (finished b) k → Told (firstOf f) bytes k
+    counting-end : {k : Counts} → Counting f bytes b at → Counted (finished b) k → Told (firstOf f) bytes k
     unfolding places runs blocks
     counting-end g q =
         let gp = rw (ended at h) at (g .places) in
@@ -254,18 +282,18 @@ module _ (f : Format) (bytes : List ℕ) where
         }
 
     -- q is what `finish` gave
-    pub counting-done : {q : Builder} {k : Counts} → Counting b at → q ≡ finished b → Counted q k → Told (firstOf f) bytes k
+    pub counting-done : {q : Builder} {k : Counts} → Counting f bytes b at → q ≡ finished b → Counted q k → Told (firstOf f) bytes k
     counting-done g e t = counting-end g (rw e at t)
 
     module _ {c : ℕ → ℕ} {P₀ : List ℤ} {R₀ B₀ : List ℕ} {P : List ℤ} {R B : List ℕ} (g : Filling c P₀ R₀ B₀ P R B b at) where
       pub filling-done : {q : Builder} {k : Counts} → q ≡ finished b → Counted q k → Told (firstOf f) bytes k
       filling-done e t = counting-done (counted g) e t
 
-      last-run : runsLeft b (eventsFrom at) ≡ runOf (b .run) ++ []
+      last-run : runsLeft b (coming at) ≡ runOf (b .run) ++ []
       unfolding runs
       last-run = rw (ended at h) (sym (append-nil (runOf (b .run))))
 
-      last-block : blocksLeft c b (eventsFrom at) ≡ blockOf c (b .block) (b .begun) ++ []
+      last-block : blocksLeft c b (coming at) ≡ blockOf c (b .block) (b .begun) ++ []
       unfolding blocks
       last-block = rw (ended at h) (sym (append-nil (blockOf c (b .block) (b .begun))))
 
@@ -287,3 +315,34 @@ module _ (f : Format) (bytes : List ℕ) where
         pub all-blocks : {B′ : List ℕ} → B′ ≡ sets B (blockCells * b .blocks) (blockOf c (b .block) (b .begun)) → B′ ≡ filled Accepted (blocksIn c (firstOf f) bytes) B₀
         unfolding filled
         all-blocks e = put-front (fit .blocks) (writing-done (writing-more {vs = blockOf c (b .block) (b .begun)} (g .blocks) last-block (record { ends = refl; stored = e })) refl) .1
+
+  -- ---- from the first record to the last
+
+  module _ {c : ℕ → ℕ} {P₀ : List ℤ} {R₀ B₀ : List ℕ} (fit : Fits c (firstOf f) bytes (length P₀) (length R₀) (length B₀)) (s : length bytes ≤ 2097152)
+      {b : Builder} {P : List ℤ} {R B : List ℕ} (w : Ended f bytes c origin 0 P₀ R₀ B₀ b P R B) where
+    all : Filling c P₀ R₀ B₀ P R B b (w .end)
+    all = filling-on c (filling-start P₀ R₀ B₀ fit) (w .went)
+
+    pub end-small : Small b
+    end-small = ready-small c (ready-on c (ready-start c fit s) (w .went))
+
+    pub end-fewer : finished b .blocks ≤ finished b .runs
+    end-fewer = fewer-blocks (all .bounded) refl
+
+    pub end-run : b .runs + length (runOf (b .run)) ≤ length R
+    end-run = room-run (w .past) all
+
+    pub end-block : blockCells * b .blocks + length (blockOf c (b .block) (b .begun)) ≤ length B
+    end-block = room-block (w .past) all
+
+    pub end-told : {k : Counts} → Counted (finished b) k → Told (firstOf f) bytes k
+    end-told t = filling-done (w .past) all refl t
+
+    pub end-places : P ≡ filled Accepted (placesIn (firstOf f) bytes) P₀
+    end-places = all-places (w .past) all fit
+
+    pub end-runs : {R′ : List ℕ} → R′ ≡ sets R (b .runs) (runOf (b .run)) → R′ ≡ filled Accepted (runsIn (firstOf f) bytes) R₀
+    end-runs e = all-runs (w .past) all fit e
+
+    pub end-blocks : {B′ : List ℕ} → B′ ≡ sets B (blockCells * b .blocks) (blockOf c (b .block) (b .begun)) → B′ ≡ filled Accepted (blocksIn c (firstOf f) bytes) B₀
+    end-blocks e = all-blocks (w .past) all fit e

@@ -6,8 +6,10 @@ use native.Mathlib.Numerals.{add-one}
 use native.Mathlib.Omega.{arith}
 use lib.IntN.{ℤ, natAbs, _+ℤ_}
 use lib.ListN.{length, length-append}
+use lib.Seq.{sets}
 use Rattle.rules.specs.Answers.{places, runs, blocks, startOf, pointsAfter, begunAfter}
 use Rattle.rules.specs.Limits.{blockCells}
+use Rattle.laws.specs.Buffers.{sets-append}
 use Rattle.rules.specs.Records.{Event, stitch, jump, change, recordThen}
 use Rattle.rules.specs.declared.Record.{Record}
 use Rattle.rules.specs.declared.Record.the-variants.{StitchBy, JumpBy, ChangeBy, Finish}
@@ -16,16 +18,7 @@ use Rattle.read_records.specs.Fields.{lenOf, dxOf, dyOf}
 use Rattle.read_builder.proofs.Parts.{run-cells, point-cells, block-cells, sizes}
 use Rattle.read_builder.specs.Builders.{some, followed, placeAfter, placesBy, runsBy, blocksBy}
 use Rattle.read_builder.specs.declared.Builder.{Builder}
-
--- the answers still to come
-abbrev pub placesLeft : Builder → List Event → List ℤ
-placesLeft b es = places (b .x) (b .y) (b .run) es
-
-abbrev pub runsLeft : Builder → List Event → List ℕ
-runsLeft b es = runs (b .run) es
-
-abbrev pub blocksLeft : (ℕ → ℕ) → Builder → List Event → List ℕ
-blocksLeft c b es = blocks c (b .block) (b .begun) (b .run) es
+use Rattle.read_passes.specs.Walks.{placesLeft, runsLeft, blocksLeft, moved, Bounded}
 
 -- the events behind a record, where `go n` are those from n bytes on
 abbrev pub eventsAfter : Record → (ℕ → List Event) → List Event
@@ -33,10 +26,6 @@ eventsAfter (StitchBy dx dy n) go = go n
 eventsAfter (JumpBy dx dy n) go = go n
 eventsAfter (ChangeBy dx dy n) go = go n
 eventsAfter Finish go = []
-
--- the builder that has taken the record's step
-abbrev pub moved : Builder → Record → Builder
-moved b r = followed b r (b .x +ℤ dxOf r) (b .y +ℤ dyOf r)
 
 pub places-next : (b : Builder) (r : Record) (go : ℕ → List Event) → placesLeft b (recordThen r go) ≡ placesBy b r ++ placesLeft (moved b r) (eventsAfter r go)
 unfolding places recordThen
@@ -109,22 +98,17 @@ any-colours c c′ k m n (jump dx dy ∷ es) = any-colours c c′ k m 0 es
 any-colours c c′ k m n (change dx dy ∷ es) =
     simp length-append (omega (arith, block-cells c k m, block-cells c′ k m, any-colours c c′ (suc k) 0 0 es))
 
--- ---- small by the bytes read; and no more blocks have runs than there are runs
-
-pub record Bounded (b : Builder) (at : ℕ) : Type 0 where
-  pub x : natAbs (b .x) ≤ 1000 * at
-  pub y : natAbs (b .y) ≤ 1000 * at
-  pub run : b .run ≤ at
-  pub block : b .block ≤ at
-  pub begun : b .begun ≤ at
-  pub points : b .points ≤ at
-  pub runs : b .runs ≤ at
-  pub blocks : b .blocks ≤ at
-  pub fewer : b .blocks + some (b .begun) ≤ b .runs + some (b .run)
-
 pub bounded-next : (b : Builder) (at N : ℕ) (r : Record) (x y : ℤ) → Bounded b at → Fair r → at + lenOf r ≤ N
     → natAbs x ≤ 1000 * (at + lenOf r) → natAbs y ≤ 1000 * (at + lenOf r) → Bounded (followed b r x y) (placeAfter r at N)
 bounded-next b at N (StitchBy dx dy n) x y w f h hx hy = omega (arith, w, sizes (b .run) (b .begun))
 bounded-next b at N (JumpBy dx dy n) x y w f h hx hy = omega (arith, w, sizes (b .run) (b .begun))
 bounded-next b at N (ChangeBy dx dy n) x y w f h hx hy = omega (arith, w, sizes (b .run) (b .begun), sizes (b .begun) 0)
 bounded-next b at N Finish x y w f h hx hy = omega (arith, w)
+
+-- ---- the place that a stitch leaves and the one it reaches, put one after the other
+
+pub two-points : (P : List ℤ) (n : ℕ) (x y u v : ℤ) → sets (sets P (2 * n) (x ∷ y ∷ [])) (2 * (n + 1)) (u ∷ v ∷ []) ≡ sets P (2 * n) (startOf 0 x y ++ u ∷ v ∷ [])
+unfolding startOf
+two-points P n x y u v =
+    let e : 2 * (n + 1) ≡ 2 * n + 2 = omega arith in
+    rw e (sym (sets-append P (2 * n) (x ∷ y ∷ []) (u ∷ v ∷ [])))

@@ -1,2 +1,2 @@
 pub mod Told
-pub mod Stretches
+pub mod Walks

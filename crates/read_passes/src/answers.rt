@@ -1,14 +1,9 @@
 // What goes into the three buffers, each cell once and in order.
 // A port of src/formats/read.rs of zigzag, changed.
-use crate::stretch::Stretch;
 use read_builder::Builder;
-use read_builder::after_stitches;
 use read_builder::color_change;
 use read_builder::colors::color_of;
-use read_builder::dx_of;
-use read_builder::dy_of;
 use read_builder::jump;
-use read_builder::opens;
 use read_builder::stitch;
 use read_builder::sum;
 use rules::BLOCK_CELLS;
@@ -23,42 +18,17 @@ ghost use Rattle.rules.specs.Answers.{startOf, runOf, blockOf};
 ghost use Rattle.rules.specs.Limits.{blockCells};
 ghost use Rattle.rules.specs.Promises.{was, left};
 ghost use Rattle.read_records.specs.Fields.{dxOf, dyOf};
-ghost use Rattle.read_builder.specs.Builders.{Small, Reach, sewn, startBy, followed, placesBy, runsBy, blocksBy, Holds};
+ghost use Rattle.read_builder.specs.Builders.{Small, Reach, stitched, jumped, changed, followed, placesBy, runsBy, blocksBy, Holds};
 ghost use Rattle.read_builder.specs.Colour.{colourIn};
-ghost use Rattle.read_passes.specs.Stretches.{Short};
 
 // Point i of all points.
-pub fn put_point(places: &mut [i32], i: u32, x: i32, y: i32)
+fn put_point(places: &mut [i32], i: u32, x: i32, y: i32)
     requires { ⌜ 2 * i + 2 ≤ length (now places) ⌝ }
     ensures { λ _. ⌜ left places ≡ sets (was places) (2 * i) (x ∷ y ∷ []) ⌝ }
 {
     let at = 2 * (i as usize);
     places[at] = x;
     places[at + 1] = y;
-}
-
-// The place that the first of n stitches leaves, where it opens a run.
-fn put_start(b: Builder, n: u32, places: &mut [i32])
-    requires { ⌜ 2 * b .points + length (startBy n b) ≤ length (now places) ⌝ }
-    requires { ⌜ Small b ⌝ }
-    ensures { λ _. ⌜ left places ≡ sets (was places) (2 * b .points) (startBy n b) ⌝ }
-{
-    if n == 0 {
-        return;
-    }
-    if b.run == 0 {
-        put_point(places, b.points, b.x, b.y);
-    }
-}
-
-// The points of a stitch to (x, y): the place it leaves too, where it opens a run.
-fn put_stitch(b: Builder, x: i32, y: i32, places: &mut [i32])
-    requires { ⌜ 2 * b .points + (length (startOf (b .run) (b .x) (b .y)) + 2) ≤ length (now places) ⌝ }
-    requires { ⌜ Small b ⌝ }
-    ensures { λ _. ⌜ left places ≡ sets (was places) (2 * b .points) (startOf (b .run) (b .x) (b .y) ++ x ∷ y ∷ []) ⌝ }
-{
-    put_start(b, 1, places);
-    put_point(places, b.points + opens(b.run), x, y);
 }
 
 // The open run, if there is one.
@@ -87,18 +57,6 @@ fn put_block(b: Builder, colors: &[u32], blocks: &mut [u32])
     blocks[at + 2] = b.begun;
 }
 
-// Plain stitches whose places are put: puts the place before them, where they open a run, and gives the builder after them.
-pub fn after_stretch(b: Builder, k: Stretch, places: &mut [i32]) -> Builder
-    requires { ⌜ Small b ⌝ }
-    requires { ⌜ Short k ⌝ }
-    requires { ⌜ 2 * b .points + length (startBy (k .count) b) ≤ length (now places) ⌝ }
-    ensures { λ q. ⌜ q ≡ sewn (k .count) b (k .x) (k .y) ⌝ }
-    ensures { λ _. ⌜ left places ≡ sets (was places) (2 * b .points) (startBy (k .count) b) ⌝ }
-{
-    put_start(b, k.count, places);
-    after_stitches(b, k.count, k.x, k.y)
-}
-
 // The run and the block that are open when nothing more comes.
 pub fn close(b: Builder, colors: &[u32], runs: &mut [u32], blocks: &mut [u32])
     requires { ⌜ b .runs + length (runOf (b .run)) ≤ length (now runs) ⌝ }
@@ -108,6 +66,66 @@ pub fn close(b: Builder, colors: &[u32], runs: &mut [u32], blocks: &mut [u32])
 {
     put_run(b, runs);
     put_block(b, colors, blocks);
+}
+
+// A stitch by (dx, dy). The place that it leaves is put too, where it opens a run. Each branch has a call of its own, so that the
+// compiler knows there whether a run is open.
+pub fn sew(b: Builder, dx: i32, dy: i32, places: &mut [i32]) -> Builder
+    requires { ⌜ Small b ⌝ }
+    requires { ⌜ Reach b dx dy ⌝ }
+    requires { ⌜ 2 * b .points + (length (startOf (b .run) (b .x) (b .y)) + 2) ≤ length (now places) ⌝ }
+    ensures { λ q. ⌜ q ≡ stitched b (b .x +ℤ dx) (b .y +ℤ dy) ⌝ }
+    ensures { λ _. ⌜ left places ≡ sets (was places) (2 * b .points) (startOf (b .run) (b .x) (b .y) ++ (b .x +ℤ dx) ∷ (b .y +ℤ dy) ∷ []) ⌝ }
+{
+    let x = sum(b.x, dx);
+    let y = sum(b.y, dy);
+    if b.run == 0 {
+        put_point(places, b.points, b.x, b.y);
+        put_point(places, b.points + 1, x, y);
+        return stitch(b, x, y);
+    }
+    put_point(places, b.points, x, y);
+    stitch(b, x, y)
+}
+
+// A jump by (dx, dy), which ends the run.
+pub fn hop(b: Builder, dx: i32, dy: i32, runs: &mut [u32]) -> Builder
+    requires { ⌜ Small b ⌝ }
+    requires { ⌜ Reach b dx dy ⌝ }
+    requires { ⌜ b .runs + length (runOf (b .run)) ≤ length (now runs) ⌝ }
+    ensures { λ q. ⌜ q ≡ jumped b (b .x +ℤ dx) (b .y +ℤ dy) ⌝ }
+    ensures { λ _. ⌜ left runs ≡ sets (was runs) (b .runs) (runOf (b .run)) ⌝ }
+{
+    let x = sum(b.x, dx);
+    let y = sum(b.y, dy);
+    if b.run == 0 {
+        return jump(b, x, y);
+    }
+    put_run(b, runs);
+    jump(b, x, y)
+}
+
+// A colour change, which ends run and block and then moves by (dx, dy).
+pub fn change(
+    b: Builder,
+    dx: i32,
+    dy: i32,
+    colors: &[u32],
+    runs: &mut [u32],
+    blocks: &mut [u32],
+) -> Builder
+    requires { ⌜ Small b ⌝ }
+    requires { ⌜ Reach b dx dy ⌝ }
+    requires { ⌜ b .runs + length (runOf (b .run)) ≤ length (now runs) ⌝ }
+    requires { ⌜ blockCells * b .blocks + length (blockOf (colourIn (now colors)) (b .block) (b .begun)) ≤ length (now blocks) ⌝ }
+    ensures { λ q. ⌜ q ≡ changed b (b .x +ℤ dx) (b .y +ℤ dy) ⌝ }
+    ensures { λ _. ⌜ left runs ≡ sets (was runs) (b .runs) (runOf (b .run)) ⌝ }
+    ensures { λ _. ⌜ left blocks ≡ sets (was blocks) (blockCells * b .blocks) (blockOf (colourIn (was colors)) (b .block) (b .begun)) ⌝ }
+{
+    let x = sum(b.x, dx);
+    let y = sum(b.y, dy);
+    close(b, colors, runs, blocks);
+    color_change(b, x, y)
 }
 
 // What a record of any kind adds to the answers, and the builder after it.
@@ -127,21 +145,10 @@ pub fn write(
     ensures { λ _. ⌜ left runs ≡ sets (was runs) (b .runs) (runsBy b r) ⌝ }
     ensures { λ _. ⌜ left blocks ≡ sets (was blocks) (blockCells * b .blocks) (blocksBy (colourIn (was colors)) b r) ⌝ }
 {
-    let x = sum(b.x, dx_of(r));
-    let y = sum(b.y, dy_of(r));
     match r {
-        Record::StitchBy { .. } => {
-            put_stitch(b, x, y, places);
-            stitch(b, x, y)
-        }
-        Record::JumpBy { .. } => {
-            put_run(b, runs);
-            jump(b, x, y)
-        }
-        Record::ChangeBy { .. } => {
-            close(b, colors, runs, blocks);
-            color_change(b, x, y)
-        }
+        Record::StitchBy { dx, dy, .. } => sew(b, dx, dy, places),
+        Record::JumpBy { dx, dy, .. } => hop(b, dx, dy, runs),
+        Record::ChangeBy { dx, dy, .. } => change(b, dx, dy, colors, runs, blocks),
         Record::Finish => b,
     }
 }

@@ -1,19 +1,12 @@
-// The three answers of a read: one pass over the records counts their cells, one writes them.
+// The two passes over the records of a file, in what they share: what a record adds to the answers, and the plain loop.
 // A port of src/formats/read.rs of zigzag, changed.
 pub mod answers;
-pub mod stretch;
 
-use crate::answers::after_stretch;
 use crate::answers::close;
 use crate::answers::write;
-use crate::stretch::draw_plain;
-use crate::stretch::skip_plain;
-use read_builder::after_stitches;
+use read_builder::Builder;
 use read_builder::counts;
 use read_builder::finish;
-use read_builder::follow;
-use read_builder::new;
-use read_builder::opens;
 use read_builder::place_after;
 use read_records::record_at;
 use rules::BLOCK_CELLS;
@@ -21,60 +14,51 @@ use rules::Counts;
 use rules::Format;
 ghost use mathlib.Core.Bool.{true};
 ghost use mathlib.Core.Path.{_≡_};
-ghost use Prim.Native.Nat.{_≤_};
+ghost use Prim.Native.Nat.{ℕ, _+_, _*_, _≤_, _<_};
 ghost use lib.ListN.{length};
-ghost use Rattle.rules.specs.Files.{filled};
+ghost use lib.Seq.{sets};
+ghost use Rattle.rules.specs.Answers.{runOf, blockOf};
+ghost use Rattle.rules.specs.Limits.{blockCells};
 ghost use Rattle.rules.specs.Promises.{was, left};
-ghost use Rattle.read_records.specs.Firsts.{firstOf};
-ghost use Rattle.rules.specs.declared.Verdict.the-variants.{Accepted};
+ghost use Rattle.read_builder.specs.Builders.{Small, Counted, finished};
 ghost use Rattle.read_builder.specs.Colour.{colourIn};
-ghost use Rattle.read_passes.specs.Told.{placesIn, runsIn, blocksIn, Told, Fits, Ample};
+ghost use Rattle.read_passes.specs.Told.{Ample};
+ghost use Rattle.read_passes.specs.Walks.{Ready, Ended};
 
-// How much the answers hold. No place is kept: the builder stays at (0, 0). A turn takes the plain stitches that come next, and one
-// record of any kind.
-pub fn count(f: Format, bytes: &[u8]) -> Counts
-    requires { ⌜ length (now bytes) ≤ 2097152 ⌝ }
-    ensures { λ r. ⌜ Told (firstOf f) (was bytes) r ⌝ }
-{
-    let mut b = new();
-    let mut at: usize = 0;
-    while at < bytes.len() {
-        let k = skip_plain(f, bytes, at);
-        b = after_stitches(b, k.count, 0, 0);
-        at = k.at;
-        let r = record_at(f, bytes, at);
-        b = follow(b, r, 0, 0);
-        at = place_after(r, at, bytes.len());
-    }
-    counts(finish(b))
-}
-
-// Writes the answers to the front of the buffers. The plain stitches leave a cell for the place before them, where they open a run.
-pub fn fill(
+// One record after the other, from byte `from` on, to the end.
+pub fn fill_rest(
     f: Format,
     bytes: &[u8],
+    from: usize,
+    first: Builder,
     colors: &[u32],
     places: &mut [i32],
     runs: &mut [u32],
     blocks: &mut [u32],
-) -> Counts
-    requires { ⌜ length (now bytes) ≤ 2097152 ⌝ }
-    requires { ⌜ Fits (colourIn (now colors)) (firstOf f) (now bytes) (length (now places)) (length (now runs)) (length (now blocks)) ⌝ }
-    ensures { λ r. ⌜ Told (firstOf f) (was bytes) r ⌝ }
-    ensures { λ _. ⌜ left places ≡ filled Accepted (placesIn (firstOf f) (was bytes)) (was places) ⌝ }
-    ensures { λ _. ⌜ left runs ≡ filled Accepted (runsIn (firstOf f) (was bytes)) (was runs) ⌝ }
-    ensures { λ _. ⌜ left blocks ≡ filled Accepted (blocksIn (colourIn (was colors)) (firstOf f) (was bytes)) (was blocks) ⌝ }
+) -> Builder
+    requires { ⌜ Ready f (now bytes) (colourIn (now colors)) first from (length (now places)) (length (now runs)) (length (now blocks)) ⌝ }
+    ensures { λ q. ⌜ Ended f (was bytes) (colourIn (was colors)) first from (was places) (was runs) (was blocks) q (left places) (left runs) (left blocks) ⌝ }
 {
-    let mut b = new();
-    let mut at: usize = 0;
+    let mut b = first;
+    let mut at = from;
     while at < bytes.len() {
-        let k = draw_plain(f, bytes, at, b.x, b.y, b.points + opens(b.run), places);
-        b = after_stretch(b, k, places);
-        at = k.at;
         let r = record_at(f, bytes, at);
         b = write(b, r, colors, places, runs, blocks);
         at = place_after(r, at, bytes.len());
     }
+    b
+}
+
+// Nothing more comes: the run and the block that are open are put, and all is counted.
+pub fn settle(b: Builder, colors: &[u32], runs: &mut [u32], blocks: &mut [u32]) -> Counts
+    requires { ⌜ Small b ⌝ }
+    requires { ⌜ finished b .blocks ≤ finished b .runs ⌝ }
+    requires { ⌜ b .runs + length (runOf (b .run)) ≤ length (now runs) ⌝ }
+    requires { ⌜ blockCells * b .blocks + length (blockOf (colourIn (now colors)) (b .block) (b .begun)) ≤ length (now blocks) ⌝ }
+    ensures { λ r. ⌜ Counted (finished b) r ⌝ }
+    ensures { λ _. ⌜ left runs ≡ sets (was runs) (b .runs) (runOf (b .run)) ⌝ }
+    ensures { λ _. ⌜ left blocks ≡ sets (was blocks) (blockCells * b .blocks) (blockOf (colourIn (was colors)) (b .block) (b .begun)) ⌝ }
+{
     close(b, colors, runs, blocks);
     counts(finish(b))
 }
@@ -91,4 +75,15 @@ pub fn ample(n: usize, places: usize, runs: usize, blocks: usize) -> bool
         return false;
     }
     BLOCK_CELLS * n / 2 <= blocks
+}
+
+// Up to where a turn that looks at n bytes may begin.
+pub fn last_turn(len: usize, n: usize) -> usize
+    requires { ⌜ 1 ≤ n ⌝ }
+    ensures { λ r. ⌜ ((at : ℕ) → at < r → at + n ≤ len) ⌝ }
+{
+    if len < n {
+        return 0;
+    }
+    len - (n - 1)
 }

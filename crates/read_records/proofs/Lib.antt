@@ -3,7 +3,9 @@ pub mod Signs
 pub mod Parts
 pub mod Formats
 pub mod Pairs
+pub mod Controls
 pub mod Halves
 pub mod Dsts
 pub mod Pecs
-pub mod Plains
+pub mod Fours
+pub mod Eights

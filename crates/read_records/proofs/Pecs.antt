@@ -1,21 +1,19 @@
 -- PEC: its steps and records, by the tests that the code makes. Assumes nothing.
 use Prim.Native.Nat.{ℕ, _+_, _-_, _*_, _/_, _%_, _≤_, _<_}
-use mathlib.Core.Path.{_≡_, refl, _∙_}
-use mathlib.Core.Bool.{Bool, true, false, not, _&&_}
+use mathlib.Core.Path.{_≡_, refl, sym, _∙_}
+use mathlib.Core.Bool.{Bool, true, false, not, _&&_, _||_}
 use mathlib.Core.List.{List, [], _∷_}
 use native.Mathlib.Omega.{arith}
-use borrow.Author.Tests.{lt-ltb, le-ltb, eq-eqb, ne-eqb, eqb-true}
+use borrow.Author.Tests.{lt-ltb, le-ltb, eq-eqb, eqb-true}
 use lib.Dec.{eqb, ltb}
 use lib.ListN.{length, getD, drop, length-drop}
 use lib.Seq.{drop-drop}
-use lib.IntN.{pos}
+use lib.IntN.{ℤ, pos}
 use Rattle.rules.specs.Vocabulary.{pick, signed}
-use Rattle.rules.specs.Pec.{axis, none, longAxis, axisOf, afterAxis, bothAxes, starts, pecChange, pecFirst}
+use Rattle.rules.specs.Pec.{Axis, axis, none, longAxis, axisOf, afterAxis, bothAxes, starts, pecChange, pecFirst}
 use Rattle.rules.specs.declared.Record.the-variants.{StitchBy, JumpBy, ChangeBy, Finish}
 use Rattle.laws.specs.Listing.{list-more, list-end}
 use Rattle.laws.specs.Tests.{by-test, and-left, and-right}
-use Rattle.read_records.specs.Axes.{axisFrom}
-use Rattle.read_records.specs.declared.steps.Coord.{Coord}
 use Rattle.read_records.proofs.Parts.{drop-two}
 
 -- ---- one step
@@ -38,39 +36,18 @@ module _ (s : List ℕ) (i : ℕ) where
   unfolding axisOf longAxis
   axis-long h k = rw (drop-two s i h, le-ltb (getD s i 0) 128 k)
 
--- ---- two steps
+abbrev sizeOf : Axis → ℕ
+sizeOf none = 0
+sizeOf (axis j z n) = n
 
-module _ (x y : Coord) where
-  pub both-first : x .len ≡ 0 → bothAxes (axisFrom x) (axisFrom y) ≡ Finish
-  unfolding bothAxes
-  both-first h = rw (eq-eqb _ _ h)
+size-le : (l : List ℕ) → sizeOf (axisOf l) ≤ 2
+unfolding axisOf longAxis
+size-le [] = omega arith
+size-le (a ∷ []) = by-test (ltb a 0x80) (λ e. rw e (omega arith)) (λ e. rw e (omega arith))
+size-le (a ∷ b ∷ l) = by-test (ltb a 0x80) (λ e. rw e (omega arith)) (λ e. rw e (omega arith))
 
-  pub both-second : (x .len ≡ 0 → ⊥) → y .len ≡ 0 → bothAxes (axisFrom x) (axisFrom y) ≡ Finish
-  unfolding bothAxes
-  both-second h k = rw (ne-eqb _ _ h, eq-eqb _ _ k)
-
-  pub both-stitch : (x .len ≡ 0 → ⊥) → (y .len ≡ 0 → ⊥) → x .up + y .up ≡ 0
-      → bothAxes (axisFrom x) (axisFrom y) ≡ StitchBy (x .step) (y .step) (x .len + y .len)
-  unfolding bothAxes
-  both-stitch h k u =
-      let p : x .up ≡ 0 = omega arith in
-      let q : y .up ≡ 0 = omega arith in
-      rw (ne-eqb _ _ h, ne-eqb _ _ k, eq-eqb _ _ p, eq-eqb _ _ q)
-
-  pub both-jump : (x .len ≡ 0 → ⊥) → (y .len ≡ 0 → ⊥) → (x .up + y .up ≡ 0 → ⊥)
-      → bothAxes (axisFrom x) (axisFrom y) ≡ JumpBy (x .step) (y .step) (x .len + y .len)
-  unfolding bothAxes
-  both-jump h k u = by-test (eqb (x .up) 0)
-      (λ e. let q : y .up ≡ 0 → ⊥ = λ f. u (omega (arith, eqb-true (x .up) 0 e)) in rw (ne-eqb _ _ h, ne-eqb _ _ k, e, ne-eqb _ _ q))
-      (λ e. rw (ne-eqb _ _ h, ne-eqb _ _ k, e))
-
-  -- the second where the first ends
-  pub both-after : (s : List ℕ) (i : ℕ) → axisFrom y ≡ axisOf (drop (i + x .len) s)
-      → bothAxes (axisFrom x) (axisFrom y) ≡ bothAxes (axisFrom x) (afterAxis (axisFrom x) (drop i s))
-  unfolding bothAxes afterAxis
-  both-after s i e = by-test (eqb (x .len) 0)
-      (λ t. rw t)
-      (λ t. rw (t, e, drop-drop (x .len) i s))
+pub axis-len : (l : List ℕ) {j : Bool} {z : ℤ} {n : ℕ} → axis j z n ≡ axisOf l → n ≤ 2
+axis-len l e = rw (sym e) at (size-le l)
 
 -- ---- the first record
 
@@ -119,3 +96,18 @@ module _ (s : List ℕ) (i : ℕ) where
         → pecFirst (drop i s) ≡ bothAxes (axisOf (drop i s)) (afterAxis (axisOf (drop i s)) (drop i s))
     unfolding pecFirst
     pec-move e f = rw (begins-not 0xFF 0x00 e, begins-not 0xFE 0xB0 f)
+
+    module _ (e : getD s i 0 ≡ 0xFF → getD s (i + 1) 0 ≡ 0x00 → ⊥) (f : getD s i 0 ≡ 0xFE → getD s (i + 1) 0 ≡ 0xB0 → ⊥) where
+      pub pec-no-x : axisOf (drop i s) ≡ none → pecFirst (drop i s) ≡ Finish
+      unfolding afterAxis bothAxes
+      pec-no-x x = pec-move e f ∙ rw x
+
+      module _ {j : Bool} {dx : ℤ} {m : ℕ} (x : axisOf (drop i s) ≡ axis j dx m) where
+        pub pec-no-y : axisOf (drop (i + m) s) ≡ none → pecFirst (drop i s) ≡ Finish
+        unfolding afterAxis bothAxes
+        pec-no-y y = pec-move e f ∙ rw (x, drop-drop m i s, y)
+
+        pub pec-both : {k : Bool} {dy : ℤ} {n : ℕ} → axisOf (drop (i + m) s) ≡ axis k dy n
+            → pecFirst (drop i s) ≡ pick (j || k) (JumpBy dx dy (m + n)) (StitchBy dx dy (m + n))
+        unfolding afterAxis bothAxes
+        pec-both y = pec-move e f ∙ rw (x, drop-drop m i s, y)

@@ -1,4 +1,5 @@
 pub mod Firsts
 pub mod Fields
 pub mod Axes
-pub mod Plain
+pub mod Words
+pub mod Tables

@@ -2,9 +2,9 @@
 // A port of src/formats/read.rs of zigzag, changed.
 pub mod bytes;
 pub mod pair;
-pub mod plain;
 pub mod steps;
 pub mod triples;
+pub mod words;
 
 use crate::pair::exp_record;
 use crate::steps::pec_record;

@@ -7,6 +7,7 @@ ghost use mathlib.Core.Path.{_≡_};
 ghost use lib.ListN.{drop};
 ghost use Rattle.rules.specs.Exp.{two, control, pairFirst};
 ghost use Rattle.rules.specs.Promises.{was};
+ghost use Rattle.read_records.specs.Tables.{Kinds};
 
 // Control 02: EXP sews, JEF jumps.
 fn second(jef: bool, dx: i32, dy: i32) -> Record
@@ -39,6 +40,21 @@ fn controlled(jef: bool, c: u8, dx: i32, dy: i32) -> Record
         return Record::JumpBy { dx, dy, len: 4 };
     }
     Record::Finish
+}
+
+// What each control does: 0 sews, 1 jumps, 2 changes colour, 3 ends.
+pub fn kinds(jef: bool) -> [u8; 256]
+    ensures { λ r. ⌜ Kinds jef r ⌝ }
+{
+    let mut t = [3u8; 256];
+    t[0x80] = 1;
+    t[1] = 2;
+    t[2] = 0;
+    if jef {
+        t[2] = 1;
+    }
+    t[4] = 1;
+    t
 }
 
 // `read_exp_like`, one record of it.

@@ -4,84 +4,55 @@ use crate::bytes::signed7;
 use crate::bytes::signed12;
 use rules::Record;
 ghost use mathlib.Core.Path.{_≡_};
-ghost use Prim.Native.Nat.{_≤_};
 ghost use lib.Dec.{ltb};
 ghost use lib.IntN.{pos};
 ghost use lib.ListN.{drop};
 ghost use Rattle.rules.specs.Vocabulary.{pick};
-ghost use Rattle.rules.specs.Pec.{axisOf, bothAxes, pecFirst};
+ghost use Rattle.rules.specs.Pec.{axisOf, pecFirst};
 ghost use Rattle.rules.specs.Promises.{was};
-ghost use Rattle.rules.specs.declared.Record.the-variants.{ChangeBy, Finish};
+ghost use Rattle.rules.specs.declared.Record.the-variants.{StitchBy, JumpBy, ChangeBy, Finish};
 ghost use Rattle.read_records.specs.Axes.{axisFrom};
 
-// A step of 1 or 2 bytes with its jump bits (0x10 and 0x20, moved down); len 0 where the file ends first.
-pub struct Coord {
-    pub step: i32,
-    pub up: u8,
-    pub len: usize,
-}
-
-fn no_coord() -> Coord
-    ensures { λ r. ⌜ (r .len ≡ 0) × (r .up ≡ 0) ⌝ }
-{
-    Coord {
-        step: 0,
-        up: 0,
-        len: 0,
-    }
+// A step of 1 or 2 bytes, and whether it says jump (0x10 or 0x20 in the first of two); `Missing` where the file ends first.
+pub enum Axis {
+    Step { marked: bool, step: i32, len: usize },
+    Missing,
 }
 
 // A top bit that is set makes a step two bytes.
-fn step_at(file: &[u8], at: usize) -> Coord
+fn step_at(file: &[u8], at: usize) -> Axis
     ensures { λ r. ⌜ axisFrom r ≡ axisOf (drop at (was file)) ⌝ }
-    ensures { λ r. ⌜ (r .len ≤ 2) × (r .up ≤ 3) ⌝ }
 {
     if file.len() <= at {
-        return no_coord();
+        return Axis::Missing;
     }
     let a = file[at];
     if a < 128 {
-        return Coord {
+        return Axis::Step {
+            marked: false,
             step: signed7(a),
-            up: 0,
             len: 1,
         };
     }
     if file.len() - at < 2 {
-        return no_coord();
+        return Axis::Missing;
     }
     let b = file[at + 1];
-    Coord {
+    Axis::Step {
+        marked: a / 16 % 4 != 0,
         step: signed12((a as u16) % 16 * 256 + (b as u16)),
-        up: a / 16 % 4,
         len: 2,
     }
 }
 
-// Both steps as a record: a jump bit on either axis makes it a jump.
-fn pair_of(x: Coord, y: Coord) -> Record
-    requires { ⌜ (x .len ≤ 2) × (x .up ≤ 3) ⌝ }
-    requires { ⌜ (y .len ≤ 2) × (y .up ≤ 3) ⌝ }
-    ensures { λ r. ⌜ r ≡ bothAxes (axisFrom x) (axisFrom y) ⌝ }
+// Both steps as a record.
+fn pair_of(marked: bool, dx: i32, dy: i32, len: usize) -> Record
+    ensures { λ r. ⌜ r ≡ pick marked (JumpBy dx dy len) (StitchBy dx dy len) ⌝ }
 {
-    if x.len == 0 {
-        return Record::Finish;
+    if marked {
+        return Record::JumpBy { dx, dy, len };
     }
-    if y.len == 0 {
-        return Record::Finish;
-    }
-    if x.up + y.up == 0 {
-        return Record::StitchBy {
-            dx: x.step,
-            dy: y.step,
-            len: x.len + y.len,
-        };
-    }
-    Record::JumpBy {
-        dx: x.step,
-        dy: y.step,
-        len: x.len + y.len,
-    }
+    Record::StitchBy { dx, dy, len }
 }
 
 // FE B0 is a colour change only with the byte after it.
@@ -115,6 +86,21 @@ pub fn pec_record(file: &[u8], at: usize) -> Record
     if two == 0xFEB0 {
         return change(file.len() - at);
     }
-    let x = step_at(file, at);
-    pair_of(x, step_at(file, at + x.len))
+    let Axis::Step {
+        marked: x_marked,
+        step: dx,
+        len: x_len,
+    } = step_at(file, at)
+    else {
+        return Record::Finish;
+    };
+    let Axis::Step {
+        marked: y_marked,
+        step: dy,
+        len: y_len,
+    } = step_at(file, at + x_len)
+    else {
+        return Record::Finish;
+    };
+    pair_of(x_marked | y_marked, dx, dy, x_len + y_len)
 }

@@ -16,8 +16,8 @@ put-text-of-requires c κs =
     let cs = commands (now (a .xs)) (now (a .ys)) (now (a .kinds)) in
     (c .before .before .before .before .pre .0 .0, omega (arith, length-file (now (a .name)) cs, c .before .before .before .before .pre .1))
 
-put-times-requires : tie.Need-put-times-requires
-put-times-requires c κs =
+put-blanks-requires : tie.Need-put-blanks-requires
+put-blanks-requires c κs =
     let put-text-of = c .before .before .before .put-text-of in let start = c .before .before .before .before .before .before .before .before in
     let a = start .args in
     let cs = commands (now (a .xs)) (now (a .ys)) (now (a .kinds)) in
@@ -25,7 +25,7 @@ put-times-requires c κs =
 
 put-stream-requires : tie.Need-put-stream-requires
 put-stream-requires c κs =
-    let put-times = c .before .before .before .put-times in
+    let put-blanks = c .before .before .before .put-blanks in
     let put-text-of = c .before .before .before .before .before .before .before .put-text-of in
     let start = c .before .before .before .before .before .before .before .before .before .before .before .before in
     let a = start .args in
@@ -37,8 +37,8 @@ put-stream-requires c κs =
         length-text (now (a .name)) cs,
         put-text-of .ensures .ends,
         put-length (put-text-of .ensures),
-        put-times .ensures .ends,
-        put-length (put-times .ensures),
+        put-blanks .ensures .ends,
+        put-length (put-blanks .ensures),
         length-replicate {A = ℕ} 387 0x20,
         start .pre .1,
       ),
@@ -46,15 +46,15 @@ put-stream-requires c κs =
 
 returns : tie.Need-returns
 returns c =
-    let put-times = c .before .before .before .before .before .before .put-times in
+    let put-blanks = c .before .before .before .before .before .before .put-blanks in
     let put-text-of = c .before .before .before .before .before .before .before .before .before .before .put-text-of in
     let early = c .before .before .before .before .before .before .before .before .before .before .before .before in
     let start = early .before .before .before in
     let a = start .args in
-    put-as (put-put (put-text-of .ensures) (put-put (put-times .ensures) (c .before .before .put-stream .ensures)))
+    put-as (put-put (put-text-of .ensures) (put-put (put-blanks .ensures) (c .before .before .put-stream .ensures)))
     (file-is (now (a .name)) (commands (now (a .xs)) (now (a .ys)) (now (a .kinds))))
 
 pub put-file-spec : {M : Type 1} → statement M
 put-file-spec =
     tie.close
-    (tie.spec put-text-of-requires put-times-requires put-stream-requires (λ c. search needs) returns)
+    (tie.spec put-text-of-requires put-blanks-requires put-stream-requires (λ c. search needs) returns)

@@ -1,15 +1,26 @@
--- One stitch of some.
+-- The sums, each with one more where the stitch opens a run.
+use native.Mathlib.Omega.{arith}
 use mir.Facts.{toZ-ofZ}
-use Rattle.read_builder.proofs.Sewn.{sewn-next}
+use Rattle.read_builder.proofs.Parts.{may-open}
 use borrow.Author.Needs.{needs}
 use Rattle.read_builder.proofs.after_stitch.Statement.{statement}
 use Rattle.read_builder.proofs.after_stitch.Tie as tie
 
+add-t6 : tie.Need-add-t6
+add-t6 c = omega (arith, may-open (c .before .before .args .b .run) .least)
+
+add-t7 : tie.Need-add-t7
+add-t7 c = omega (arith, may-open (c .before .before .before .args .b .run) .least)
+
+add-t9 : tie.Need-add-t9
+add-t9 c = omega (arith, may-open (c .before .before .before .before .args .b .run) .least)
+
 returns : tie.Need-returns
 returns c =
-    let s = c .before in
+    let s = c .before .before .before .before in
     let a = s .args in
-    rw (c .after-stitches .ensures, toZ-ofZ (s .fits .x), toZ-ofZ (s .fits .y)) (sewn-next 0 (a .b) (a .x) (a .y) (a .x) (a .y))
+    let w = may-open (a .b .run) in
+    rw (c .before .before .before .opens .ensures, toZ-ofZ (s .fits .x), toZ-ofZ (s .fits .y), w .after, w .begun (a .b .begun), w .adds (a .b .points))
 
 pub after-stitch-spec : {M : Type 1} → statement M
-after-stitch-spec = tie.close (tie.spec (λ c κs. search needs) returns)
+after-stitch-spec = tie.close (tie.spec (λ c κs. search needs) (λ c. search needs) add-t6 add-t7 (λ c. search needs) add-t9 returns)

@@ -39,6 +39,5 @@ pub put-block-spec : {M : Type 1} → statement M
 put-block-spec =
     tie.close
     (tie.spec
-    returns (λ c. search needs) (λ c. search needs) (λ c. search needs) slice-write-blocks (λ c κs. search needs)
-    (λ c. search needs) (λ c. search needs) slice-write-blocks-2 (λ c. search needs) (λ c. search needs)
-    slice-write-blocks-3 (λ c. search needs) returns-2)
+    returns (λ c. search needs) (λ c. search needs) (λ c. search needs) slice-write-blocks (λ c κs. search needs) (λ c. search needs)
+    (λ c. search needs) slice-write-blocks-2 (λ c. search needs) (λ c. search needs) slice-write-blocks-3 (λ c. search needs) returns-2)

@@ -10,7 +10,7 @@ use Rattle.read_records.proofs.triples.dst_dx.Tie as tie
 
 returns : tie.Need-returns
 returns c =
-    let s = c .before .before .before .args in
+    let s = c .before .before .before .before .args in
     ret w32 (c .less .result) (c .less .ok)
     ∙ c .less .ensures
     ∙ dx-sum (s .a) (s .b) (s .c) (c .before .before .x-of .result) (c .before .x-of2 .result) (c .before .before .x-of .ensures)

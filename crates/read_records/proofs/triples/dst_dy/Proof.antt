@@ -10,7 +10,7 @@ use Rattle.read_records.proofs.triples.dst_dy.Tie as tie
 
 returns : tie.Need-returns
 returns c =
-    let s = c .before .before .before .args in
+    let s = c .before .before .before .before .args in
     ret w32 (c .less .result) (c .less .ok)
     ∙ c .less .ensures
     ∙ dy-sum (s .a) (s .b) (s .c) (c .before .before .y-of .result) (c .before .y-of2 .result) (c .before .before .y-of .ensures)

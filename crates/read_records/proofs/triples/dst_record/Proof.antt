@@ -17,14 +17,11 @@ returns-2 c = let a = c .before .before .before .args in sym (dst-short (now (a 
 
 returns-3 : tie.Need-returns-3
 returns-3 c =
-    let a = c .before .before .before .before .before .before .before .before .before .args in
-    rw (
-      c .kind .ensures,
-      ret w32 (c .before .before .dst-dx .result) (c .before .before .dst-dx .ok),
-      c .before .before .dst-dx .ensures,
-      ret w32 (c .before .dst-dy .result) (c .before .dst-dy .ok),
-      c .before .dst-dy .ensures,
-    )
+    let dy = c .before .dst-dy in
+    let dx = c .before .before .before .dst-dx in
+    let start = c .before .before .before .before .before .before .before .before .before .before .before .before .before in
+    let a = start .args in
+    rw (c .kind .ensures, ret w32 (dx .result) (dx .ok), dx .ensures, ret w32 (dy .result) (dy .ok), dy .ensures)
     (sym (dst-whole (now (a .file)) (a .at) (omega arith)))
 
 pub dst-record-spec : {M : Type 1} → statement M
@@ -32,5 +29,5 @@ dst-record-spec =
     tie.close
     (tie.spec
     returns (λ c. search needs) returns-2 (λ c. search needs) (λ c. search needs) (λ c. search needs)
-    (λ c. search needs) (λ c. search needs) (λ c κs. search needs) (λ c κs. search needs) (λ c κs. search needs)
-    returns-3)
+    (λ c. search needs) (λ c. search needs) (λ c κs. search needs) (λ c κs. search needs) (λ c. search needs)
+    (λ c κs. search needs) (λ c. search needs) (λ c κs. search needs) (λ c κs. search needs) returns-3)

@@ -1,0 +1,30 @@
+// The first pass over the records: how much the answers hold. No place is kept, so a few numbers are enough. Each format has a loop of
+// its own, whose turn passes one record or a few at once; what is left is counted record by record.
+// A port of src/formats/read.rs of zigzag, changed.
+pub mod pairs;
+pub mod steps;
+pub mod tally;
+pub mod triples;
+
+use crate::pairs::count_pairs;
+use crate::steps::count_steps;
+use crate::triples::count_triples;
+use rules::Counts;
+use rules::Format;
+ghost use Prim.Native.Nat.{_≤_};
+ghost use lib.ListN.{length};
+ghost use Rattle.rules.specs.Promises.{was};
+ghost use Rattle.read_records.specs.Firsts.{firstOf};
+ghost use Rattle.read_passes.specs.Told.{Told};
+
+pub fn count(f: Format, bytes: &[u8]) -> Counts
+    requires { ⌜ length (now bytes) ≤ 2097152 ⌝ }
+    ensures { λ r. ⌜ Told (firstOf f) (was bytes) r ⌝ }
+{
+    match f {
+        Format::Pes | Format::Pec => count_steps(bytes),
+        Format::Dst => count_triples(bytes),
+        Format::Exp => count_pairs(false, bytes),
+        Format::Jef => count_pairs(true, bytes),
+    }
+}

@@ -1,0 +1,3 @@
+-- Lemmas that more than one proof cites.
+pub mod Laws
+pub mod Hops

@@ -1,0 +1,66 @@
+// The second pass over the records: the answers go to the front of the buffers. Each format has a loop of its own, whose turn takes one
+// record or a few at once; what is left is read record by record. All goes through the builder.
+// A port of src/formats/read.rs of zigzag, changed.
+pub mod pairs;
+pub mod steps;
+pub mod triples;
+pub mod turn;
+
+use crate::pairs::fill_pairs;
+use crate::steps::fill_steps;
+use crate::triples::fill_triples;
+use read_builder::Builder;
+use read_passes::settle;
+use rules::Counts;
+use rules::Format;
+ghost use mathlib.Core.Path.{_≡_};
+ghost use Prim.Native.Nat.{_≤_};
+ghost use lib.ListN.{length};
+ghost use Rattle.rules.specs.Files.{filled};
+ghost use Rattle.rules.specs.Promises.{was, left};
+ghost use Rattle.rules.specs.declared.Verdict.the-variants.{Accepted};
+ghost use Rattle.read_records.specs.Firsts.{firstOf};
+ghost use Rattle.read_builder.specs.Builders.{origin};
+ghost use Rattle.read_builder.specs.Colour.{colourIn};
+ghost use Rattle.read_passes.specs.Told.{placesIn, runsIn, blocksIn, Told, Fits};
+ghost use Rattle.read_fill.specs.Turns.{rowOf, Room, Ends};
+
+// All records.
+fn fill_records(
+    f: Format,
+    bytes: &[u8],
+    colors: &[u32],
+    places: &mut [i32],
+    runs: &mut [u32],
+    blocks: &mut [u32],
+) -> Builder
+    requires { ⌜ Room (rowOf f) bytes colors origin 0 places runs blocks ⌝ }
+    ensures { λ q. ⌜ Ends (rowOf f) (was bytes) (was colors) places runs blocks q ⌝ }
+{
+    match f {
+        Format::Pes | Format::Pec => fill_steps(bytes, colors, places, runs, blocks),
+        Format::Dst => fill_triples(bytes, colors, places, runs, blocks),
+        Format::Exp => fill_pairs(false, bytes, colors, places, runs, blocks),
+        Format::Jef => fill_pairs(true, bytes, colors, places, runs, blocks),
+    }
+}
+
+// Writes the answers to the front of the buffers.
+pub fn fill(
+    f: Format,
+    bytes: &[u8],
+    colors: &[u32],
+    places: &mut [i32],
+    runs: &mut [u32],
+    blocks: &mut [u32],
+) -> Counts
+    requires { ⌜ length (now bytes) ≤ 2097152 ⌝ }
+    requires { ⌜ Fits (colourIn (now colors)) (firstOf f) (now bytes) (length (now places)) (length (now runs)) (length (now blocks)) ⌝ }
+    ensures { λ r. ⌜ Told (firstOf f) (was bytes) r ⌝ }
+    ensures { λ _. ⌜ left places ≡ filled Accepted (placesIn (firstOf f) (was bytes)) (was places) ⌝ }
+    ensures { λ _. ⌜ left runs ≡ filled Accepted (runsIn (firstOf f) (was bytes)) (was runs) ⌝ }
+    ensures { λ _. ⌜ left blocks ≡ filled Accepted (blocksIn (colourIn (was colors)) (firstOf f) (was bytes)) (was blocks) ⌝ }
+{
+    let b = fill_records(f, bytes, colors, places, runs, blocks);
+    settle(b, colors, runs, blocks)
+}
