@@ -1,95 +1,113 @@
--- The five digits of a step that is raised by 121, and the bits of one digit. Assumes nothing.
-use Prim.Native.Nat.{ℕ, zero, suc, _+_, _-_, _*_, _/_, _%_, _≤_, _<_}
-use mathlib.Core.Path.{_≡_, refl, sym, ap, _∙_}
-use mathlib.Core.Bool.{Bool, _&&_}
+-- The digits of a step by the greedy rule, as the code has them, and the bits of one digit. Assumes nothing.
+use Prim.Native.Nat.{ℕ, zero, suc, _+_, _^_, _≤_, _<_}
+use mathlib.Core.Path.{_≡_, refl, ap, _∙_}
+use mathlib.Core.Bool.{true, false}
 use native.Mathlib.Omega.{arith}
-use lib.Dec.{T, eqb, eqb→eq}
-use lib.IntN.{ℤ, pos, natAbs, negℤ, _+ℤ_, _-ℤ_}
-use mir.Facts.{and-yes}
+use lib.IntN.{ℤ, pos, negsuc, natAbs, negℤ, _+ℤ_, _-ℤ_, _*ℤ_}
+use lib.Signed.{ltZ, mag}
+use mir.Syntax.{w32}
+use mir.Val.{SFits, hbits, toZ, ofZ}
 use Rattle.rules.specs.Dst.{Digit, minus, nought, plus, digit, rest, z27, z9, z3, z1, pair}
-use Rattle.laws.specs.Ints.{ints, abs-is, neg-law}
-use Rattle.laws.specs.Tables.{checked}
-use Rattle.stream_cmd.specs.Cmds.{trit}
+use Rattle.laws.specs.Tests.{by-test}
+use Rattle.laws.specs.Ints.{ints, abs-is, abs-le, neg-law, add-law, sub-law, mul-law, ret}
+use Rattle.stream_cmd.specs.Cmds.{digitValue}
 
--- ---- the digits of a step
+-- a digit is the sign of its number, which is from -1 to 1
+pub sign : (d : Digit) → digit 0 (digitValue d) ≡ d
+unfolding digit digitValue
+sign minus = refl
+sign nought = refl
+sign plus = refl
 
--- what `trit` counts
-place : Digit → ℕ
-place minus = 0
-place nought = 1
-place plus = 2
+pub value-small : (d : Digit) → natAbs (digitValue d) ≤ 1
+unfolding digitValue
+value-small minus = omega arith
+value-small nought = omega arith
+value-small plus = omega arith
 
-trit-place : (d : Digit) → trit (place d) ≡ d
-unfolding place trit
-trit-place minus = refl
-trit-place nought = refl
-trit-place plus = refl
+-- what each outcome of the two tests says
+module _ (h : ℕ) (z : ℤ) where
+  pub plus-if : ltZ (pos h) z ≡ true → digit h z ≡ plus
+  unfolding digit
+  plus-if e = rw e
 
-is-trit : (d : Digit) (n : ℕ) → T (eqb (place d) n) → d ≡ trit n
-is-trit d n t = sym (trit-place d) ∙ ap trit (eqb→eq (place d) n t)
+  pub minus-if : ltZ (pos h) z ≡ false → ltZ z (negℤ (pos h)) ≡ true → digit h z ≡ minus
+  unfolding digit
+  minus-if e l = rw (e, l)
 
--- the greedy digits of z are the digits of t
-pub record Digits (z : ℤ) (t : ℕ) : Type 0 where
-  pub d81 : digit 40 z ≡ trit (t / 81 % 3)
-  pub d27 : digit 13 (z27 z) ≡ trit (t / 27 % 3)
-  pub d9 : digit 4 (z9 z) ≡ trit (t / 9 % 3)
-  pub d3 : digit 1 (z3 z) ≡ trit (t / 3 % 3)
-  pub d1 : digit 0 (z1 z) ≡ trit (t / 1 % 3)
+  pub nought-if : ltZ (pos h) z ≡ false → ltZ z (negℤ (pos h)) ≡ false → digit h z ≡ nought
+  unfolding digit
+  nought-if e l = rw (e, l)
 
--- the same as tests
-abbrev at81 : ℤ → ℕ → Bool
-at81 z t = eqb (place (digit 40 z)) (t / 81 % 3)
+-- what a product takes away is what the digit does
+pub taken : (w : ℕ) (d z : ℤ) → natAbs d ≤ 1 → z -ℤ d *ℤ pos w ≡ rest w (digit 0 d) z
+unfolding digit rest
+taken w (pos zero) z h = omega (ints, sub-law z (pos 0 *ℤ pos w), mul-law (pos 0) w)
+taken w (pos (suc zero)) z h = omega (ints, sub-law z (pos 1 *ℤ pos w), mul-law (pos 1) w)
+taken w (pos (suc (suc n))) z h = absurd (omega arith)
+taken w (negsuc zero) z h = omega (ints, sub-law z (negsuc 0 *ℤ pos w), mul-law (negsuc 0) w)
+taken w (negsuc (suc n)) z h = absurd (omega arith)
 
-abbrev at27 : ℤ → ℕ → Bool
-at27 z t = eqb (place (digit 13 (z27 z))) (t / 27 % 3)
+-- what it leaves is a step too
+pub rest-small : (w h : ℕ) (z : ℤ) → w ≤ 81 → natAbs z ≤ 121 → natAbs (rest w (digit h z) z) ≤ 121
+unfolding rest
+rest-small w h z l a = let n = neg-law (pos h) in
+    by-test (ltZ (pos h) z)
+    (λ e. rw (plus-if h z e) (abs-le (z -ℤ pos w) 121 (omega (ints, abs-is z, sub-law z (pos w))) (omega (ints, abs-is z, sub-law z (pos w)))))
+    (λ e. by-test (ltZ z (negℤ (pos h)))
+    (λ k. rw (minus-if h z e k) (abs-le (z +ℤ pos w) 121 (omega (ints, abs-is z, add-law z (pos w))) (omega (ints, abs-is z, add-law z (pos w)))))
+    (λ k. rw (nought-if h z e k) a))
 
-abbrev at9 : ℤ → ℕ → Bool
-at9 z t = eqb (place (digit 4 (z9 z))) (t / 9 % 3)
+pub small27 : (z : ℤ) → natAbs z ≤ 121 → natAbs (z27 z) ≤ 121
+unfolding z27
+small27 z h = rest-small 81 40 z (omega arith) h
 
-abbrev at3 : ℤ → ℕ → Bool
-at3 z t = eqb (place (digit 1 (z3 z))) (t / 3 % 3)
+pub small9 : (z : ℤ) → natAbs z ≤ 121 → natAbs (z9 z) ≤ 121
+unfolding z9
+small9 z h = rest-small 27 13 (z27 z) (omega arith) (small27 z h)
 
-abbrev at1 : ℤ → ℕ → Bool
-at1 z t = eqb (place (digit 0 (z1 z))) (t / 1 % 3)
+pub small3 : (z : ℤ) → natAbs z ≤ 121 → natAbs (z3 z) ≤ 121
+unfolding z3
+small3 z h = rest-small 9 4 (z9 z) (omega arith) (small9 z h)
 
-abbrev agree : ℤ → ℕ → Bool
-agree z t = (at81 z t && at27 z t) && ((at9 z t && at3 z t) && at1 z t)
+-- no step has no digits
+pub record Still : Type 0 where
+  pub d81 : digit 40 (pos 0) ≡ nought
+  pub d27 : digit 13 (z27 (pos 0)) ≡ nought
+  pub d9 : digit 4 (z9 (pos 0)) ≡ nought
+  pub d3 : digit 1 (z3 (pos 0)) ≡ nought
+  pub d1 : digit 0 (z1 (pos 0)) ≡ nought
 
-agreed : (z : ℤ) (t : ℕ) → T (agree z t) → Digits z t
-agreed z t h =
-    let u = and-yes (at81 z t && at27 z t) ((at9 z t && at3 z t) && at1 z t) h in
-    let high = and-yes (at81 z t) (at27 z t) (u .0) in
-    let low = and-yes (at9 z t && at3 z t) (at1 z t) (u .1) in
-    let mid = and-yes (at9 z t) (at3 z t) (low .0) in
-    record {
-      d81 = is-trit _ _ (high .0);
-      d27 = is-trit _ _ (high .1);
-      d9 = is-trit _ _ (mid .0);
-      d3 = is-trit _ _ (mid .1);
-      d1 = is-trit _ _ (low .1);
-    }
+pub still : Still
+unfolding digit rest z27 z9 z3 z1
+still = record { d81 = refl; d27 = refl; d9 = refl; d3 = refl; d1 = refl }
 
--- computed once for all 243
-digits : (z : ℤ) (t : ℕ) → t < 243 → z ≡ pos t -ℤ pos 121 → Digits z t
-unfolding place digit rest z27 z9 z3 z1
-digits z t h e = rw e (agreed (pos t -ℤ pos 121) t (checked (λ t. agree (pos t -ℤ pos 121) t) 243 tt t h))
+-- ---- as the code has them, through their bits
 
--- a step that is raised, and one whose negative is
-module _ (z : ℤ) (t : ℕ) (h : natAbs z ≤ 121) where
-  pub raised-digits : pos t ≡ z +ℤ pos 121 → Digits z t
-  raised-digits e = digits z t (omega (ints, abs-is z)) (omega ints)
+abbrev pub back : ℤ → ℤ
+back z = toZ w32 (ofZ w32 z)
 
-  pub lowered-digits : pos t ≡ pos 121 -ℤ z → Digits (negℤ z) t
-  lowered-digits e = digits (negℤ z) t (omega (ints, abs-is z)) (omega (ints, neg-law z))
+pub sign-back : (d : Digit) → digit 0 (back (digitValue d)) ≡ d
+unfolding digit digitValue
+sign-back minus = refl
+sign-back nought = refl
+sign-back plus = refl
+
+-- the digit d of z, and what it leaves
+module _ (h : ℕ) {z z′ d : ℤ} (e : z ≡ z′) (k : mag d < 2 ^ hbits w32) (f : d ≡ digitValue (digit h z)) where
+  pub digit-is : back d ≡ digitValue (digit h z′)
+  digit-is = ret w32 d k ∙ f ∙ ap (λ (x : ℤ). digitValue (digit h x)) e
+
+  pub rest-is : (w : ℕ) {r : ℤ} → mag r < 2 ^ hbits w32 → r ≡ rest w (digit 0 (back d)) z → back r ≡ rest w (digit h z′) z′
+  rest-is w {r} l g = ret w32 r l ∙ g ∙ rw (digit-is, sign (digit h z′), e)
+
+pub rest-fits : (w : ℕ) (d : Digit) (z : ℤ) → w < 256 → natAbs z ≤ 121 → SFits w32 (rest w d z)
+unfolding rest
+rest-fits w minus z l h = omega (ints, abs-is z)
+rest-fits w nought z l h = omega (ints, abs-is z)
+rest-fits w plus z l h = omega (ints, abs-is z)
 
 -- ---- the bits of a digit
-
-pub bits-are : (p m d : ℕ) → d < 3 → p * (d / 2) + m * ((2 - d) / 2) ≡ pair p m (trit d)
-unfolding pair trit
-bits-are p m zero h = omega arith
-bits-are p m (suc zero) h = omega arith
-bits-are p m (suc (suc zero)) h = omega arith
-bits-are p m (suc (suc (suc d))) h = absurd (omega arith)
 
 pub pair-most : (p m : ℕ) (d : Digit) → pair p m d ≤ p + m
 unfolding pair

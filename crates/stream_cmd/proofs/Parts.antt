@@ -10,8 +10,8 @@ use Rattle.rules.specs.Vocabulary.{little, fromLittle}
 use Rattle.rules.specs.Dst.{digit, z27, z9, z3, z1, pair, dstBytes}
 use Rattle.laws.specs.Ints.{ints, abs-is, abs-le, sub-law}
 use Rattle.laws.specs.Little.{little-from}
-use Rattle.stream_cmd.specs.Cmds.{trit, along, partOf, Parts}
-use Rattle.stream_cmd.proofs.Digits.{pair-most, raised-digits}
+use Rattle.stream_cmd.specs.Cmds.{along, Parts}
+use Rattle.stream_cmd.proofs.Digits.{pair-most, still}
 
 module _ (k : ℕ) (x y : ℤ) where
   module _ (h : k ≤ 131) where
@@ -44,8 +44,8 @@ module _ (k : ℕ) (x y : ℤ) where
 
   -- the bits of a record are those of its kind and its two steps
   pub bits-sum : 65536 * k + fromLittle (along true x) + fromLittle (along false y) ≡ fromLittle (dstBytes k x y)
-  unfolding fromLittle dstBytes pair trit
-  bits-sum = let o = raised-digits (pos 0) 121 (omega arith) (omega ints) in rw (o .d81, o .d27, o .d9, o .d3, o .d1) (omega arith)
+  unfolding fromLittle dstBytes pair
+  bits-sum = let o = still in rw (o .d81, o .d27, o .d9, o .d3, o .d1) (omega arith)
 
 -- the entry of a step
 pub part-at : {wide : Bool} {s : List ℕ} (z : ℤ) (t : ℕ) → Parts wide s → natAbs z ≤ 121 → pos t ≡ z +ℤ pos 121 → (t < 243) × (getD s t 0 ≡ fromLittle (along wide z))

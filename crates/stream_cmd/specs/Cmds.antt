@@ -1,19 +1,20 @@
 -- The bytes of a command by format, which steps are small enough, which kinds are counted, and the parts of a DST record.
-use Prim.Native.Nat.{ℕ, zero, suc, _+_, _≤_, _<_}
+use Prim.Native.Nat.{ℕ, _+_, _≤_, _<_}
 use mathlib.Core.Path.{_≡_}
 use mathlib.Core.Bool.{Bool, true, false, _&&_}
 use mathlib.Core.List.{List}
 use lib.Dec.{leb}
-use lib.IntN.{ℤ, pos, natAbs, _-ℤ_}
+use lib.IntN.{ℤ, pos, negsuc, natAbs, _-ℤ_}
 use lib.ListN.{length, getD}
 use Rattle.rules.specs.Vocabulary.{fromLittle}
 use Rattle.rules.specs.Lists.{opOf, commands, written}
 use Rattle.rules.specs.Refusals.{stepTooLong}
-use Rattle.rules.specs.Dst.{Digit, minus, nought, plus, dstBytes, dstCmd}
+use Rattle.rules.specs.Dst.{Digit, minus, nought, plus, digit, z27, z9, z3, z1, dstBytes, dstCmd}
 use Rattle.rules.specs.Exp.{expCmd}
 use Rattle.rules.specs.Jef.{jefCmd}
 use Rattle.stream_cmd.specs.declared.Stream.{Stream}
 use Rattle.stream_cmd.specs.declared.Stream.the-variants.{Dst, Exp, Jef}
+use Rattle.stream_cmd.specs.declared.triples.Digits.{Digits}
 use Rattle.rules.specs.declared.Format.{Format}
 use Rattle.rules.specs.declared.Format.the-variants as format
 use Rattle.rules.specs.declared.Op.{Op}
@@ -59,11 +60,20 @@ StepAt f xs ys i x y = Step f (getD xs i (pos 0) -ℤ x) (getD ys i (pos 0) -ℤ
 abbrev pub bytesAt : Stream → List ℤ → List ℤ → List ℕ → ℕ → ℤ → ℤ → List ℕ
 bytesAt f xs ys ks i x y = cmdOf f (opOf (getD ks i 0)) (getD xs i (pos 0) -ℤ x) (getD ys i (pos 0) -ℤ y)
 
--- a digit counted from 0
-unfoldable pub trit : ℕ → Digit
-trit zero = minus
-trit (suc zero) = nought
-trit (suc (suc n)) = plus
+-- the number of a digit, and those of a step by the greedy rule
+unfoldable pub digitValue : Digit → ℤ
+digitValue minus = negsuc 0
+digitValue nought = pos 0
+digitValue plus = pos 1
+
+abbrev pub digitsOf : ℤ → Digits
+digitsOf z = record {
+  d81 = digitValue (digit 40 z);
+  d27 = digitValue (digit 13 (z27 z));
+  d9 = digitValue (digit 4 (z9 z));
+  d3 = digitValue (digit 1 (z3 z));
+  d1 = digitValue (digit 0 (z1 z));
+}
 
 -- a DST record that moves by z along x, or else by -z along y, with no bits of a kind
 abbrev pub along : Bool → ℤ → List ℕ

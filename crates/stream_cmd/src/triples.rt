@@ -4,58 +4,100 @@ use emit::put_three;
 use emit::put3;
 use rules::Op;
 ghost use mathlib.Core.Path.{_≡_};
-ghost use Prim.Native.Nat.{_+_, _/_, _%_, _≤_, _<_};
+ghost use Prim.Native.Nat.{_+_, _≤_, _<_};
 ghost use lib.IntN.{pos, natAbs, negℤ, _+ℤ_, _-ℤ_};
 ghost use lib.ListN.{length};
 ghost use Rattle.rules.specs.Vocabulary.{fromLittle};
-ghost use Rattle.rules.specs.Dst.{pair, dstBytes, dstCmd};
+ghost use Rattle.rules.specs.Dst.{digit, rest, pair, dstBytes, dstCmd};
 ghost use Rattle.stream_cmd.specs.declared.Stream.the-variants.{Dst};
 ghost use Rattle.rules.specs.declared.Op.the-variants.{Trim};
 ghost use Rattle.laws.specs.Buffers.{Puts};
-ghost use Rattle.stream_cmd.specs.Cmds.{Step, trit, partOf, Parts, Tables};
+ghost use Rattle.stream_cmd.specs.Cmds.{Step, digitValue, digitsOf, partOf, Parts, Tables};
 
-// A step raised by 121, so that its digits count from 0.
-fn raised(z: i32) -> usize
-    requires { ⌜ natAbs z ≤ 121 ⌝ }
-    ensures { λ r. ⌜ pos r ≡ z +ℤ pos 121 ⌝ }
-{
-    (z + 121) as usize
+// The digits of a step, each -1, 0 or 1, by weight.
+pub struct Digits {
+    pub d81: i32,
+    pub d27: i32,
+    pub d9: i32,
+    pub d3: i32,
+    pub d1: i32,
 }
 
-// The same of a step's negative.
-fn lowered(z: i32) -> usize
-    requires { ⌜ natAbs z ≤ 121 ⌝ }
-    ensures { λ r. ⌜ pos r ≡ pos 121 -ℤ z ⌝ }
+// The digit of z whose lower digits reach to `reach`.
+fn digit(z: i32, reach: u8) -> i32
+    ensures { λ r. ⌜ r ≡ digitValue (digit reach z) ⌝ }
 {
-    (121 - z) as usize
+    let most = reach as i32;
+    if most < z {
+        return 1;
+    }
+    if z < 0 - most {
+        return -1;
+    }
+    0
 }
 
-// The bit of one digit of a raised step: that of its sign, or none.
-fn bits(t: u8, weight: u8, plus: u8, minus: u8) -> u8
-    requires { ⌜ (0 < weight) × (plus + minus ≤ 255) ⌝ }
-    ensures { λ r. ⌜ (r ≡ pair plus minus (trit (t / weight % 3))) × (r ≤ plus + minus) ⌝ }
+// What z leaves to its lower digits, its digit of that weight being d.
+fn rest(z: i32, weight: u8, d: i32) -> i32
+    requires { ⌜ (natAbs z ≤ 121) × (natAbs d ≤ 1) ⌝ }
+    ensures { λ r. ⌜ r ≡ rest weight (digit 0 d) z ⌝ }
 {
-    let d = t / weight % 3;
-    plus * (d / 2) + minus * ((2 - d) / 2)
+    z - d * (weight as i32)
+}
+
+// The digits of a step, the greatest weight first.
+fn digits_of(z: i32) -> Digits
+    requires { ⌜ natAbs z ≤ 121 ⌝ }
+    ensures { λ r. ⌜ r ≡ digitsOf z ⌝ }
+{
+    let d81 = digit(z, 40);
+    let z27 = rest(z, 81, d81);
+    let d27 = digit(z27, 13);
+    let z9 = rest(z27, 27, d27);
+    let d9 = digit(z9, 4);
+    let z3 = rest(z9, 9, d9);
+    let d3 = digit(z3, 1);
+    let z1 = rest(z3, 3, d3);
+    let d1 = digit(z1, 0);
+    Digits {
+        d81,
+        d27,
+        d9,
+        d3,
+        d1,
+    }
+}
+
+// The bit of one digit: that of its sign, or none.
+fn bits(d: i32, plus: u8, minus: u8) -> u8
+    ensures { λ r. ⌜ (r ≡ pair plus minus (digit 0 d)) × (r ≤ plus + minus) ⌝ }
+{
+    if 0 < d {
+        return plus;
+    }
+    if d < 0 {
+        return minus;
+    }
+    0
 }
 
 // A record that moves by (dx, dy), with the bits of its kind.
-pub fn encode_record(kind: u8, dx: i32, dy: i32) -> [u8; 3]
+fn encode_record(kind: u8, dx: i32, dy: i32) -> [u8; 3]
     requires { ⌜ (kind ≤ 131) × ((natAbs dx ≤ 121) × (natAbs dy ≤ 121)) ⌝ }
     ensures { λ r. ⌜ r ≡ dstBytes kind dx (negℤ dy) ⌝ }
 {
-    let x = raised(dx) as u8;
-    let y = lowered(dy) as u8;
+    let x = digits_of(dx);
+    let y = digits_of(0 - dy);
     [
-        bits(x, 1, 0x01, 0x02)
-            + bits(x, 9, 0x04, 0x08)
-            + bits(y, 9, 0x20, 0x10)
-            + bits(y, 1, 0x80, 0x40),
-        bits(x, 3, 0x01, 0x02)
-            + bits(x, 27, 0x04, 0x08)
-            + bits(y, 27, 0x20, 0x10)
-            + bits(y, 3, 0x80, 0x40),
-        kind + bits(x, 81, 0x04, 0x08) + bits(y, 81, 0x20, 0x10),
+        bits(x.d1, 0x01, 0x02)
+            + bits(x.d9, 0x04, 0x08)
+            + bits(y.d9, 0x20, 0x10)
+            + bits(y.d1, 0x80, 0x40),
+        bits(x.d3, 0x01, 0x02)
+            + bits(x.d27, 0x04, 0x08)
+            + bits(y.d27, 0x20, 0x10)
+            + bits(y.d3, 0x80, 0x40),
+        kind + bits(x.d81, 0x04, 0x08) + bits(y.d81, 0x20, 0x10),
     ]
 }
 
@@ -110,6 +152,22 @@ pub fn table(wide: bool) -> [u32; 243]
         t += 1;
     }
     parts
+}
+
+// The entry of a step in a table.
+fn raised(z: i32) -> usize
+    requires { ⌜ natAbs z ≤ 121 ⌝ }
+    ensures { λ r. ⌜ pos r ≡ z +ℤ pos 121 ⌝ }
+{
+    (z + 121) as usize
+}
+
+// That of its negative.
+fn lowered(z: i32) -> usize
+    requires { ⌜ natAbs z ≤ 121 ⌝ }
+    ensures { λ r. ⌜ pos r ≡ pos 121 -ℤ z ⌝ }
+{
+    (121 - z) as usize
 }
 
 // A record put together from its parts.
