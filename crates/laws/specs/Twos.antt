@@ -1,25 +1,23 @@
 -- Two's complement at any width: `signed k` and `bitsOf k` of k + 1 bits. The range is `InBits k z` (Ints), which `omega ints` proves at
 -- a numeral k, as it does every bound on `up` and `dn`.
 -- Assumes nothing.
-use Prim.Native.Nat.{ℕ, suc, _+_, _-_, _*_, _^_, _/_, _%_, _≤_, _<_}
+use Prim.Native.Nat.{ℕ, _+_, _-_, _*_, _^_, _%_, _≤_, _<_}
 use mathlib.Core.Path.{_≡_, sym, ap, _∙_}
 use native.Mathlib.Omega.{arith}
-use native.Mathlib.Nat.{mod-eq-of-lt, mod-eq-sub-mod, mod-lt, suc-mul, add-mul, div-add-mod', div-lt-iff-lt-mul, lt-of-lt-of-le}
+use native.Mathlib.Nat.{mod-eq-of-lt, mod-eq-sub-mod, mod-lt}
 use native.Mathlib.Numerals.{add-one}
 use native.Mathlib.Decide.{decLt}
-use lib.Arith.{digits-mod}
-use lib.Pow.{pow-pos, pow-mono, pow-add}
-use lib.Bits.{bitAnd, and-mask, mask-lt}
-use lib.Dec.{T, ltb}
+use lib.Pow.{pow-pos, pow-mono}
+use lib.Dec.{T}
 use lib.Signed.{nonNeg}
-use lib.IntN.{ℤ, pos, negsuc, _-ℤ_, natAbs}
+use lib.IntN.{ℤ, pos, negsuc, _+ℤ_, _-ℤ_, natAbs}
 use mir.Syntax.{Width}
 use mir.Val.{SFits, Fits, bits, hbits, toZ, ofZ}
-use mir.ValLaws.{bits-suc, pow-bits}
+use mir.ValLaws.{pow-bits}
 use mir.Facts.{toZ-pos}
 use Rattle.rules.specs.Vocabulary.{signed, bitsOf}
-use Rattle.laws.specs.Tests.{by-test, pick-lt, pick-ge}
-use Rattle.laws.specs.Ints.{up, dn, ints, InBits, up-neg, dn-neg, sub-law, eq-sub, same-diff}
+use Rattle.laws.specs.Tests.{pick-lt, pick-ge}
+use Rattle.laws.specs.Ints.{up, dn, ints, InBits, up-neg, dn-neg, abs-is, seen, eq-sub, same-diff}
 
 pub twice-pow : (k : ℕ) → 2 ^ (k + 1) ≡ 2 * 2 ^ k
 twice-pow k = rw (add-one k) (omega arith)
@@ -62,17 +60,7 @@ signed-by P k n l f g = elim (decLt n (2 ^ k)) [
 pub range : (k : ℕ) (z : ℤ) → InBits k z → (up z < 2 ^ k + dn z) × (dn z ≤ 2 ^ k + up z)
 range k z h = let u = up-neg (pos (2 ^ k)) in let d = dn-neg (pos (2 ^ k)) in (omega ints, omega ints)
 
-pub in-range : (k : ℕ) (z : ℤ) → up z < 2 ^ k + dn z → dn z ≤ 2 ^ k + up z → InBits k z
-in-range k z h l = let u = up-neg (pos (2 ^ k)) in let d = dn-neg (pos (2 ^ k)) in omega ints
-
-pub signed-in : (k n : ℕ) → n < 2 ^ (k + 1) → InBits k (signed k n)
-signed-in k n l =
-    let s = sub-law (pos n) (pos (2 ^ (k + 1))) in
-    signed-by (InBits k) k n l
-    (λ h. in-range k (pos n) (omega arith) (omega arith))
-    (λ h. in-range k (pos n -ℤ pos (2 ^ (k + 1))) (omega (arith, twice-pow k)) (omega (arith, twice-pow k)))
-
--- ---- there and back: exactly the numbers of that range come back
+-- ---- there and back: the numbers of that range come back
 
 pub signed-bits : (k : ℕ) (z : ℤ) → InBits k z → signed k (bitsOf k z) ≡ z
 signed-bits k (pos n) r =
@@ -84,16 +72,6 @@ signed-bits k (negsuc n) r =
     let e = bits-neg k (negsuc n) (omega arith) (omega (arith, twice-pow k)) in
     signed-high k (bitsOf k (negsuc n)) (omega (arith, twice-pow k)) (bits-lt k (negsuc n))
     ∙ sym (eq-sub (negsuc n) (pos (bitsOf k (negsuc n))) (pos (2 ^ (k + 1))) (omega arith))
-
-pub signed-bits-only : (k : ℕ) (z : ℤ) → signed k (bitsOf k z) ≡ z → InBits k z
-signed-bits-only k z e = rw e at (signed-in k (bitsOf k z) (bits-lt k z))
-
-pub bits-signed : (k n : ℕ) → n < 2 ^ (k + 1) → bitsOf k (signed k n) ≡ n
-bits-signed k n l =
-    let s = sub-law (pos n) (pos (2 ^ (k + 1))) in
-    signed-by (λ (z : ℤ). bitsOf k z ≡ n) k n l
-    (λ h. omega (arith, bits-pos k (pos n) (omega arith) (omega arith)))
-    (λ h. omega (arith, bits-neg k (pos n -ℤ pos (2 ^ (k + 1))) (omega arith) (omega arith)))
 
 -- ---- what code computes
 
@@ -111,45 +89,39 @@ shifted k n l =
     (λ h. sym (eq-sub (pos n) (pos ((n + H) % M)) (pos H) (omega (arith, mod-eq-of-lt {n = n + H} {m = M} (omega arith)))))
     (λ h. same-diff ((n + H) % M) H n M (omega (arith, mod-eq-sub-mod {n = n + H} {m = M} (omega arith), mod-eq-of-lt {n = n + H - M} {m = M} (omega arith))))
 
--- a local of a width is its bits
-pub toZ-signed : (w : Width) (n : ℕ) → toZ w n ≡ signed (hbits w) n
-unfolding signed
-toZ-signed w n = by-test (ltb n (2 ^ hbits w)) (λ e. rw e) (λ e. rw e (ap negsuc (omega (arith, pow-bits w, twice-pow (hbits w)))))
+-- ---- encoding: the remainder of z raised by 2 ^ (k + 1)
 
-pub ofZ-bits : {w : Width} {z : ℤ} → SFits w z → ofZ w z ≡ bitsOf (hbits w) z
+-- z raised by m
+abbrev pub over : ℕ → ℤ → ℕ
+over m z = up z + m - dn z
+
+pub encoded : (k : ℕ) (z : ℤ) → dn z ≤ 2 ^ (k + 1) → bitsOf k z ≡ over (2 ^ (k + 1)) z % 2 ^ (k + 1)
 unfolding bitsOf
-ofZ-bits {w} {z = pos n} h = sym (mod-eq-of-lt (omega (arith, twice-pow (hbits w))))
-ofZ-bits {w} {z = negsuc n} h = omega (arith, pow-bits w, twice-pow (hbits w), mod-eq-of-lt {n = n} {m = 2 ^ (hbits w + 1)} (omega (arith, twice-pow (hbits w))))
+encoded k (pos n) h =
+    let M : ℕ = 2 ^ (k + 1) in
+    let e : over M (pos n) - M ≡ n = omega arith in
+    sym (mod-eq-sub-mod {n = over M (pos n)} {m = M} (omega arith) ∙ ap (λ (x : ℕ). x % M) e)
+encoded k (negsuc n) h =
+    let M : ℕ = 2 ^ (k + 1) in
+    omega (arith, mod-eq-of-lt {n = n} {m = M} (omega arith), mod-eq-of-lt {n = over M (negsuc n)} {m = M} (omega arith))
 
--- ---- the low bits by a mask: `z & (2 ^ (k + 1) - 1)`
+-- the sum as code has it
+abbrev raised : Width → ℕ → ℤ → ℤ
+raised w m z = toZ w (ofZ w (toZ w (ofZ w z) +ℤ pos m))
 
-from-top : (q m n : ℕ) → 0 < m → n < q * m → (q * m - suc n) % m ≡ m - 1 - n % m
-from-top q m n h l =
-    let a : ℕ = n / m in
-    let t : ℕ = q - suc a in
-    let r : ℕ = m - 1 - n % m in
-    let lt : a < q = div-lt-iff-lt-mul h .1 l in
-    let whole : suc a + t ≡ q = omega arith in
-    let e : q * m - suc n ≡ t * m + r = omega (arith, ap (λ (x : ℕ). x * m) whole, add-mul (suc a) t m, suc-mul a m, div-add-mod' n m, mod-lt n h) in
-    rw e (digits-mod t {m = m} {r = r} (omega arith))
+-- `((z + 2 ^ (k + 1)) as u32) % 2 ^ (k + 1)`: what the sum asks, what the cast asks, and what is left
+module _ {w : Width} {z : ℤ} (k : ℕ) (l : k + 1 < hbits w) (f : SFits w z) (h : natAbs z < 2 ^ (k + 1)) where
+  room : 2 * 2 ^ (k + 1) ≤ 2 ^ hbits w
+  room = omega (arith, twice-pow (k + 1), pow-mono {i = k + 1 + 1} {j = hbits w} (omega arith))
 
-pub mask-bits : {w : Width} {z : ℤ} (k : ℕ) → k < bits w → SFits w z → bitAnd (ofZ w z) (2 ^ (k + 1) - 1) ≡ bitsOf k z
-unfolding bitsOf
-mask-bits {w} {z = pos n} k h f = and-mask n (k + 1)
-mask-bits {w} {z = negsuc n} k h f =
-    let j : ℕ = bits w - (k + 1) in
-    let whole : j + (k + 1) ≡ bits w = omega arith in
-    let e : 2 ^ bits w ≡ 2 ^ j * 2 ^ (k + 1) = ap (λ (i : ℕ). 2 ^ i) (sym whole) ∙ pow-add 2 j (k + 1) in
-    and-mask (2 ^ bits w - suc n) (k + 1) ∙ ap (λ (x : ℕ). (x - suc n) % 2 ^ (k + 1)) e ∙ from-top (2 ^ j) (2 ^ (k + 1)) n (pow-pos (k + 1)) (omega (arith, pow-bits w))
+  pub over-fits : SFits w (toZ w (ofZ w z) +ℤ pos (2 ^ (k + 1)))
+  over-fits = omega (ints, seen f, abs-is z, room)
 
--- the number that is read of them, what its cast to an unsigned type asks, and what the cast gives
-mask-read : (w : Width) (n k : ℕ) → k < hbits w → toZ w (bitAnd n (2 ^ (k + 1) - 1)) ≡ pos (bitAnd n (2 ^ (k + 1) - 1))
-mask-read w n k h = toZ-pos w (lt-of-lt-of-le (mask-lt n (k + 1)) (pow-mono {i = k + 1} {j = hbits w} (omega arith)))
+  over-is : raised w (2 ^ (k + 1)) z ≡ pos (over (2 ^ (k + 1)) z)
+  over-is = let fits = over-fits in omega (ints, seen f, abs-is z)
 
-pub mask-cast : (w : Width) {w′ : Width} (n k : ℕ) → k < hbits w → k < bits w′
-    → T (nonNeg (toZ w (bitAnd n (2 ^ (k + 1) - 1)))) × Fits w′ (natAbs (toZ w (bitAnd n (2 ^ (k + 1) - 1))))
-mask-cast w {w′} n k h l =
-    rw (mask-read w n k h) (tt, record { fits = lt-of-lt-of-le (mask-lt n (k + 1)) (pow-mono {i = k + 1} {j = bits w′} (omega arith)) })
+  pub over-cast : T (nonNeg (raised w (2 ^ (k + 1)) z)) × Fits w (natAbs (raised w (2 ^ (k + 1)) z))
+  over-cast = rw over-is (tt, record { fits = omega (arith, abs-is z, room, pow-bits w) })
 
-pub mask-ret : {w : Width} {z : ℤ} (k : ℕ) → k < hbits w → SFits w z → natAbs (toZ w (bitAnd (ofZ w z) (2 ^ (k + 1) - 1))) ≡ bitsOf k z
-mask-ret {w} {z} k h f = rw (mask-read w (ofZ w z) k h) (mask-bits k (omega (arith, bits-suc w)) f)
+  pub over-low : natAbs (raised w (2 ^ (k + 1)) z) % 2 ^ (k + 1) ≡ bitsOf k z
+  over-low = rw over-is (sym (encoded k z (omega (arith, abs-is z))))

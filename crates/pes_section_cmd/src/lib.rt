@@ -170,7 +170,7 @@ fn low16(z: i32) -> usize
     requires { ⌜ natAbs z ≤ 32767 ⌝ }
     ensures { λ r. ⌜ r ≡ bitsOf 15 z ⌝ }
 {
-    ((z + 65536) % 65536) as usize
+    (((z + 65536) as u32) % 65536) as usize
 }
 
 // A place from the left and the bottom edge.

@@ -20,7 +20,7 @@ fn low_byte(z: i32) -> u8
     requires { ⌜ natAbs z ≤ 127 ⌝ }
     ensures { λ r. ⌜ r ≡ bitsOf 7 z ⌝ }
 {
-    ((z + 256) % 256) as u8
+    (((z + 256) as u32) % 256) as u8
 }
 
 fn minus_byte(z: i32) -> u8

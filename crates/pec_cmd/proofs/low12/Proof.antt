@@ -1,16 +1,17 @@
 -- The remainder of the number raised by 4096.
-use mathlib.Core.Path.{sym}
 use native.Mathlib.Omega.{arith}
-use Rattle.laws.specs.Ints.{abs-is}
-use Rattle.pec_cmd.proofs.Bytes.{twelve, over-fits, over-is}
+use Rattle.laws.specs.Twos.{over-fits, over-cast, over-low}
 use Rattle.pec_cmd.proofs.low12.Statement.{statement}
 use Rattle.pec_cmd.proofs.low12.Tie as tie
 
+add-result : tie.Need-add-result
+add-result c = over-fits 11 (omega arith) (c .fits .z) (omega (arith, c .pre))
+
 cast-result : tie.Need-cast-result
-cast-result c = rw (over-is 4096 (c .fits .z) (omega arith) (omega arith)) (tt, record { fits = omega (arith, abs-is (c .args .z)) })
+cast-result c = over-cast 11 (omega arith) (c .fits .z) (omega (arith, c .pre))
 
 returns : tie.Need-returns
-returns c = rw (over-is 4096 (c .fits .z) (omega arith) (omega arith)) (sym (twelve (c .args .z) (c .pre)), omega arith)
+returns c = (over-low 11 (omega arith) (c .fits .z) (omega (arith, c .pre)), omega arith)
 
 pub low12-spec : {M : Type 1} → statement M
-low12-spec = tie.close (tie.spec (λ c. over-fits 4096 (c .fits .z) (omega arith) (omega arith)) cast-result returns)
+low12-spec = tie.close (tie.spec add-result cast-result returns)

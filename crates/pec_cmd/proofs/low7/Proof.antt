@@ -1,17 +1,18 @@
 -- The remainder of the number raised by 128.
-use mathlib.Core.Path.{sym}
 use native.Mathlib.Omega.{arith}
-use Rattle.laws.specs.Ints.{abs-is}
-use Rattle.pec_cmd.proofs.Bytes.{seven, over-fits, over-is}
+use Rattle.laws.specs.Twos.{over-fits, over-cast, over-low}
 use borrow.Author.Needs.{needs}
 use Rattle.pec_cmd.proofs.low7.Statement.{statement}
 use Rattle.pec_cmd.proofs.low7.Tie as tie
 
+add-result : tie.Need-add-result
+add-result c = over-fits 6 (omega arith) (c .fits .z) (omega (arith, c .pre))
+
 cast-result : tie.Need-cast-result
-cast-result c = rw (over-is 128 (c .fits .z) (omega arith) (omega arith)) (tt, record { fits = omega (arith, abs-is (c .args .z)) })
+cast-result c = over-cast 6 (omega arith) (c .fits .z) (omega (arith, c .pre))
 
 returns : tie.Need-returns
-returns c = rw (over-is 128 (c .fits .z) (omega arith) (omega arith)) (sym (seven (c .args .z) (c .pre)))
+returns c = over-low 6 (omega arith) (c .fits .z) (omega (arith, c .pre))
 
 pub low7-spec : {M : Type 1} → statement M
-low7-spec = tie.close (tie.spec (λ c. over-fits 128 (c .fits .z) (omega arith) (omega arith)) cast-result (λ c. search needs) returns)
+low7-spec = tie.close (tie.spec add-result cast-result (λ c. search needs) returns)
