@@ -1,12 +1,9 @@
 -- PES and PEC: two stitches of one kind, the word of four bytes at a record, and a row of jumps. Assumes nothing.
 use Prim.Native.Nat.{ℕ, _+_, _*_, _/_, _%_, _≤_, _<_}
 use mathlib.Core.Path.{_≡_, refl, sym, ap, _∙_}
-use mathlib.Core.Bool.{Bool, true, false, not, _&&_, _||_}
+use mathlib.Core.Bool.{Bool, true, false, _&&_}
 use mathlib.Core.List.{List, [], _∷_, _++_}
 use native.Mathlib.Omega.{arith}
-use borrow.Author.Tests.{eqb-true, eq-eqb, ltb-true}
-use lib.Bits.{bitAnd, and-block, and-le-l}
-use lib.Dec.{ltb, eqb}
 use lib.IntN.{ℤ, pos, _+ℤ_}
 use lib.ListN.{length, getD, drop}
 use lib.Seq.{sets, length-sets}
@@ -14,15 +11,13 @@ use mir.Syntax.{w8}
 use mir.Val.{Fits}
 use Rattle.rules.specs.Answers.{startOf, runOf}
 use Rattle.rules.specs.Pec.{pecFirst}
-use Rattle.rules.specs.Vocabulary.{signed, pick}
+use Rattle.rules.specs.Vocabulary.{pick}
 use Rattle.rules.specs.declared.Format.{Format}
 use Rattle.rules.specs.declared.Format.the-variants.{Pec}
 use Rattle.rules.specs.declared.Record.the-variants.{StitchBy, JumpBy, ChangeBy, Finish}
 use Rattle.laws.specs.Ints.{abs-add}
-use Rattle.laws.specs.Tables.{checked}
-use Rattle.laws.specs.Tests.{is-true}
 use Rattle.read_records.specs.Firsts.{firstOf}
-use Rattle.read_records.specs.Words.{fourAt, eightAt, pastStep, axisStep, plainStep, masked}
+use Rattle.read_records.specs.Words.{fourAt, eightAt, pastStep, axisStep, firstPart, plainStep, masked}
 use Rattle.read_records.proofs.Formats.{Near, near}
 use Rattle.read_records.proofs.Fours.{stepsOf, word-end, word-change, word-steps, word-low}
 use Rattle.read_records.proofs.Eights.{two-short-here, two-long-here, short-long-here}
@@ -38,58 +33,10 @@ use Rattle.read_fill.proofs.Laws.{can-sew, can-again, turn-twice, turn-
 pub below : (s : List ℕ) → ((k : ℕ) → Fits w8 (getD s k 0)) → (k : ℕ) → getD s k 0 < 256
 below s f k = omega (arith, f k)
 
--- ---- bytes below 128, by a mask
-
--- the lowest byte of a number under a mask, and the rest of it
-peel : (a v b m x y : ℕ) → a < 256 → m < 256 → y < 256 → bitAnd (a + 256 * v) (m + 256 * b) ≡ y + 256 * x → (bitAnd a m ≡ y) × (bitAnd v b ≡ x)
-peel a v b m x y ha hm hy e =
-    let p : v * 256 + a ≡ a + 256 * v = omega arith in
-    let q : b * 256 + m ≡ m + 256 * b = omega arith in
-    let k : bitAnd (v * 256 + a) (b * 256 + m) ≡ bitAnd v b * 256 + bitAnd a m = and-block 8 v b a m ha hm in
-    let l : bitAnd v b * 256 + bitAnd a m ≡ y + 256 * x = sym k ∙ rw (p, q) e in
-    (omega (arith, and-le-l a m), omega (arith, and-le-l a m))
-
-short : ℕ → Bool
-short b = not (eqb (bitAnd b 0x80) 0x00) || ltb b 128
-
-is-short : (b : ℕ) → b < 256 → bitAnd b 0x80 ≡ 0x00 → b < 128
-unfolding short
-is-short b h e = ltb-true b 128 (is-true (ltb b 128) (rw (eq-eqb _ _ e) at (checked short 256 tt b h)))
-
-module _ (s : List ℕ) (i : ℕ) (low : (k : ℕ) → getD s k 0 < 256) where
-  eight-is : eightAt s i ≡ getD s i 0 + 256 * (getD s (i + 1) 0 + 256 * (getD s (i + 2) 0 + 256 * (getD s (i + 3) 0 + 256 * fourAt s (i + 4))))
-  unfolding fourAt
-  eight-is = omega arith
-
-  -- the four bytes from i on under four bytes of a mask
-  lowest : (m₀ m₁ m₂ m₃ m y₀ y₁ y₂ y₃ y : ℕ) → m₀ < 256 → m₁ < 256 → m₂ < 256 → m₃ < 256 → y₀ < 256 → y₁ < 256 → y₂ < 256 → y₃ < 256
-      → masked (m₀ + 256 * (m₁ + 256 * (m₂ + 256 * (m₃ + 256 * m)))) (y₀ + 256 * (y₁ + 256 * (y₂ + 256 * (y₃ + 256 * y)))) (eightAt s i) ≡ true
-      → (bitAnd (getD s i 0) m₀ ≡ y₀)
-      × ((bitAnd (getD s (i + 1) 0) m₁ ≡ y₁) × ((bitAnd (getD s (i + 2) 0) m₂ ≡ y₂) × (bitAnd (getD s (i + 3) 0) m₃ ≡ y₃)))
-  lowest m₀ m₁ m₂ m₃ m y₀ y₁ y₂ y₃ y h₀ h₁ h₂ h₃ l₀ l₁ l₂ l₃ e =
-      let k = ap (λ (v : ℕ). bitAnd v (m₀ + 256 * (m₁ + 256 * (m₂ + 256 * (m₃ + 256 * m))))) (sym eight-is) ∙ eqb-true _ _ e in
-      let p₀ = peel _ _ _ m₀ _ y₀ (low i) h₀ l₀ k in
-      let p₁ = peel _ _ _ m₁ _ y₁ (low (i + 1)) h₁ l₁ (p₀ .1) in
-      let p₂ = peel _ _ _ m₂ _ y₂ (low (i + 2)) h₂ l₂ (p₁ .1) in
-      (p₀ .0, (p₁ .0, (p₂ .0, peel _ _ _ m₃ _ y₃ (low (i + 3)) h₃ l₃ (p₂ .1) .0)))
-
-  -- four steps of one byte
-  pub all-short : masked 0x80808080 0 (eightAt s i) ≡ true
-      → (getD s i 0 < 128) × ((getD s (i + 1) 0 < 128) × ((getD s (i + 2) 0 < 128) × (getD s (i + 3) 0 < 128)))
-  all-short e =
-      let k = lowest 0x80 0x80 0x80 0x80 0 0 0 0 0 0 (omega arith) (omega arith) (omega arith) (omega arith) (omega arith) (omega arith) (omega arith) (omega arith) e in
-      (is-short _ (low i) (k .0), (is-short _ (low (i + 1)) (k .1 .0), (is-short _ (low (i + 2)) (k .1 .1 .0), is-short _ (low (i + 3)) (k .1 .1 .1))))
-
-  -- each step along x has one byte
-  pub xs-short : masked 0x000000B08000B080 0x0000008000008000 (eightAt s i) ≡ true → (getD s i 0 < 128) × (getD s (i + 3) 0 < 128)
-  xs-short e =
-      let k = lowest 0x80 0xB0 0 0x80 0xB0 0 0x80 0 0 0x80 (omega arith) (omega arith) (omega arith) (omega arith) (omega arith) (omega arith) (omega arith) (omega arith) e in
-      (is-short _ (low i) (k .0), is-short _ (low (i + 3)) (k .1 .1 .1))
-
-  -- the lower half of eight bytes
-  pub low-word : eightAt s i % 4294967296 ≡ fourAt s i
-  unfolding fourAt
-  low-word = omega (arith, low i, low (i + 1), low (i + 2), low (i + 3))
+-- the lower half of eight bytes
+pub low-word : (s : List ℕ) (i : ℕ) → ((k : ℕ) → getD s k 0 < 256) → eightAt s i % 4294967296 ≡ fourAt s i
+unfolding fourAt
+low-word s i low = omega (arith, low i, low (i + 1), low (i + 2), low (i + 3))
 
 -- ---- two stitches
 
@@ -102,17 +49,17 @@ pub record Two (s : List ℕ) (i : ℕ) (dx dy : ℤ) (n : ℕ) (ex ey : ℤ) (m
 
 module _ (s : List ℕ) (i : ℕ) (low : (k : ℕ) → getD s k 0 < 256) (h : i + 8 ≤ length s) where
   pub here-short : masked 0x80808080 0 (eightAt s i) ≡ true
-      → Two s i (signed 6 (getD s i 0)) (signed 6 (getD s (i + 1) 0)) 2 (signed 6 (getD s (i + 2) 0)) (signed 6 (getD s (i + 3) 0)) 2
+      → Two s i (firstPart (getD s i 0)) (firstPart (getD s (i + 1) 0)) 2 (firstPart (getD s (i + 2) 0)) (firstPart (getD s (i + 3) 0)) 2
   here-short e = let k = two-short-here s i low h e in record { one = in-pec _ ∙ k .0; two = in-pec _ ∙ k .1 }
 
   pub here-long : masked 0x00B000B000B000B0 0x0080008000800080 (eightAt s i) ≡ true
-      → Two s i (signed 11 (getD s i 0 % 16 * 256 + getD s (i + 1) 0)) (signed 11 (getD s (i + 2) 0 % 16 * 256 + getD s (i + 3) 0)) 4
-      (signed 11 (getD s (i + 4) 0 % 16 * 256 + getD s (i + 5) 0)) (signed 11 (getD s (i + 6) 0 % 16 * 256 + getD s (i + 7) 0)) 4
+      → Two s i (axisStep (getD s i 0) (getD s (i + 1) 0)) (axisStep (getD s (i + 2) 0) (getD s (i + 3) 0)) 4
+      (axisStep (getD s (i + 4) 0) (getD s (i + 5) 0)) (axisStep (getD s (i + 6) 0) (getD s (i + 7) 0)) 4
   here-long e = let k = two-long-here s i low h e in record { one = in-pec _ ∙ k .0; two = in-pec _ ∙ k .1 }
 
   pub here-short-long : masked 0x000000B08000B080 0x0000008000008000 (eightAt s i) ≡ true
-      → Two s i (signed 6 (getD s i 0)) (signed 11 (getD s (i + 1) 0 % 16 * 256 + getD s (i + 2) 0)) 3
-      (signed 6 (getD s (i + 3) 0)) (signed 11 (getD s (i + 4) 0 % 16 * 256 + getD s (i + 5) 0)) 3
+      → Two s i (firstPart (getD s i 0)) (axisStep (getD s (i + 1) 0) (getD s (i + 2) 0)) 3
+      (firstPart (getD s (i + 3) 0)) (axisStep (getD s (i + 4) 0) (getD s (i + 5) 0)) 3
   here-short-long e = let k = short-long-here s i low h e in record { one = in-pec _ ∙ k .0; two = in-pec _ ∙ k .1 }
 
 module _ (s : List ℕ) {i n m : ℕ} {dx dy ex ey : ℤ} (t : Two s i dx dy n ex ey m) {b : Builder} where

@@ -10,12 +10,13 @@ use read_passes::answers::hop;
 use read_passes::answers::sew;
 use read_passes::fill_rest;
 use read_passes::last_turn;
-use read_records::bytes::signed7;
 use read_records::words::eight;
+use read_records::words::first_of;
 use read_records::words::four;
-use read_records::words::long_step;
 use read_records::words::past;
-use read_records::words::sews;
+use read_records::words::pec_step;
+use read_records::words::pec_steps;
+use read_records::words::sews_by;
 use read_records::words::short_long;
 use read_records::words::step_of;
 use read_records::words::top;
@@ -29,12 +30,14 @@ ghost use lib.ListN.{length};
 ghost use Rattle.rules.specs.Promises.{was};
 ghost use Rattle.rules.specs.declared.Format.the-variants.{Pec};
 ghost use Rattle.read_builder.specs.Builders.{origin};
+ghost use Rattle.read_records.specs.Tables.{PecSteps};
 ghost use Rattle.read_records.specs.Words.{fourAt, eightAt, masked};
 ghost use Rattle.read_passes.specs.Walks.{Bounded};
 ghost use Rattle.read_fill.specs.Turns.{Room, Turns, Ends, Hopped, RoomHere, Sewn};
 
 // The jumps that stand at `from`, as long as they begin before `end` and with a byte below FE. No run is open.
-fn hop_row(first: Builder, bytes: &[u8], from: usize, end: usize) -> Turn
+fn hop_row(steps: &[i32], first: Builder, bytes: &[u8], from: usize, end: usize) -> Turn
+    requires { ⌜ PecSteps (now steps) ⌝ }
     requires { ⌜ length (now bytes) ≤ 2097152 ⌝ }
     requires { ⌜ ((at : ℕ) → at < end → at + 8 ≤ length (now bytes)) ⌝ }
     requires { ⌜ from ≤ length (now bytes) ⌝ }
@@ -51,41 +54,47 @@ fn hop_row(first: Builder, bytes: &[u8], from: usize, end: usize) -> Turn
         if 0xFE <= w % 256 {
             return Turn { b, at };
         }
-        if sews(w, y) {
+        if sews_by(steps, w, y) {
             return Turn { b, at };
         }
-        b = jump(b, sum(b.x, step_of(w)), sum(b.y, step_of(y)));
+        b = jump(b, sum(b.x, step_of(steps, w)), sum(b.y, step_of(steps, y)));
         at = at + 2 + top(w) + top(y);
     }
     Turn { b, at }
 }
 
 // Two stitches whose steps have one byte each.
-fn sew_short(b: Builder, bytes: &[u8], at: usize, places: &mut [i32]) -> Turn
+fn sew_short(steps: &[i32], b: Builder, bytes: &[u8], at: usize, places: &mut [i32]) -> Turn
+    requires { ⌜ PecSteps (now steps) ⌝ }
     requires { ⌜ at + 8 ≤ length (now bytes) ⌝ }
     requires { ⌜ masked 0x80808080 0 (eightAt (now bytes) at) ≡ true ⌝ }
     requires { ⌜ RoomHere Pec (now bytes) b at (length (now places)) ⌝ }
     ensures { λ t. ⌜ Sewn Pec (was bytes) b at places t ⌝ }
 {
-    let one = sew(b, signed7(bytes[at]), signed7(bytes[at + 1]), places);
+    let dx = first_of(steps, bytes[at]);
+    let dy = first_of(steps, bytes[at + 1]);
+    let one = sew(b, dx, dy, places);
+    let ex = first_of(steps, bytes[at + 2]);
+    let ey = first_of(steps, bytes[at + 3]);
     Turn {
-        b: sew(one, signed7(bytes[at + 2]), signed7(bytes[at + 3]), places),
+        b: sew(one, ex, ey, places),
         at: at + 4,
     }
 }
 
 // Two stitches whose steps have two bytes each.
-fn sew_long(b: Builder, bytes: &[u8], at: usize, places: &mut [i32]) -> Turn
+fn sew_long(steps: &[i32], b: Builder, bytes: &[u8], at: usize, places: &mut [i32]) -> Turn
+    requires { ⌜ PecSteps (now steps) ⌝ }
     requires { ⌜ at + 8 ≤ length (now bytes) ⌝ }
     requires { ⌜ masked 0x00B000B000B000B0 0x0080008000800080 (eightAt (now bytes) at) ≡ true ⌝ }
     requires { ⌜ RoomHere Pec (now bytes) b at (length (now places)) ⌝ }
     ensures { λ t. ⌜ Sewn Pec (was bytes) b at places t ⌝ }
 {
-    let dx = long_step(bytes[at], bytes[at + 1]);
-    let dy = long_step(bytes[at + 2], bytes[at + 3]);
+    let dx = pec_step(steps, bytes[at], bytes[at + 1]);
+    let dy = pec_step(steps, bytes[at + 2], bytes[at + 3]);
     let one = sew(b, dx, dy, places);
-    let ex = long_step(bytes[at + 4], bytes[at + 5]);
-    let ey = long_step(bytes[at + 6], bytes[at + 7]);
+    let ex = pec_step(steps, bytes[at + 4], bytes[at + 5]);
+    let ey = pec_step(steps, bytes[at + 6], bytes[at + 7]);
     Turn {
         b: sew(one, ex, ey, places),
         at: at + 8,
@@ -93,23 +102,27 @@ fn sew_long(b: Builder, bytes: &[u8], at: usize, places: &mut [i32]) -> Turn
 }
 
 // Two stitches whose steps have one byte and two by turns.
-fn sew_short_long(b: Builder, bytes: &[u8], at: usize, places: &mut [i32]) -> Turn
+fn sew_short_long(steps: &[i32], b: Builder, bytes: &[u8], at: usize, places: &mut [i32]) -> Turn
+    requires { ⌜ PecSteps (now steps) ⌝ }
     requires { ⌜ at + 8 ≤ length (now bytes) ⌝ }
     requires { ⌜ masked 0x000000B08000B080 0x0000008000008000 (eightAt (now bytes) at) ≡ true ⌝ }
     requires { ⌜ RoomHere Pec (now bytes) b at (length (now places)) ⌝ }
     ensures { λ t. ⌜ Sewn Pec (was bytes) b at places t ⌝ }
 {
-    let dy = long_step(bytes[at + 1], bytes[at + 2]);
-    let one = sew(b, signed7(bytes[at]), dy, places);
-    let ey = long_step(bytes[at + 4], bytes[at + 5]);
+    let dx = first_of(steps, bytes[at]);
+    let dy = pec_step(steps, bytes[at + 1], bytes[at + 2]);
+    let one = sew(b, dx, dy, places);
+    let ex = first_of(steps, bytes[at + 3]);
+    let ey = pec_step(steps, bytes[at + 4], bytes[at + 5]);
     Turn {
-        b: sew(one, signed7(bytes[at + 3]), ey, places),
+        b: sew(one, ex, ey, places),
         at: at + 6,
     }
 }
 
 // One record, or a row of jumps; w are its first four bytes.
 fn turn_word(
+    steps: &[i32],
     b: Builder,
     bytes: &[u8],
     at: usize,
@@ -120,6 +133,7 @@ fn turn_word(
     runs: &mut [u32],
     blocks: &mut [u32],
 ) -> Turn
+    requires { ⌜ PecSteps (now steps) ⌝ }
     requires { ⌜ at < end ⌝ }
     requires { ⌜ ((i : ℕ) → i < end → i + 8 ≤ length (now bytes)) ⌝ }
     requires { ⌜ w ≡ fourAt (now bytes) at ⌝ }
@@ -137,16 +151,23 @@ fn turn_word(
     }
     let y = past(w);
     let next = at + 2 + top(w) + top(y);
-    if sews(w, y) {
+    if sews_by(steps, w, y) {
         return Turn {
-            b: sew(b, step_of(w), step_of(y), places),
+            b: sew(b, step_of(steps, w), step_of(steps, y), places),
             at: next,
         };
     }
-    hop_row(hop(b, step_of(w), step_of(y), runs), bytes, next, end)
+    hop_row(
+        steps,
+        hop(b, step_of(steps, w), step_of(steps, y), runs),
+        bytes,
+        next,
+        end,
+    )
 }
 
 fn turn_steps(
+    steps: &[i32],
     b: Builder,
     bytes: &[u8],
     at: usize,
@@ -156,6 +177,7 @@ fn turn_steps(
     runs: &mut [u32],
     blocks: &mut [u32],
 ) -> Turn
+    requires { ⌜ PecSteps (now steps) ⌝ }
     requires { ⌜ at < end ⌝ }
     requires { ⌜ ((i : ℕ) → i < end → i + 8 ≤ length (now bytes)) ⌝ }
     requires { ⌜ Room Pec bytes colors b at places runs blocks ⌝ }
@@ -163,15 +185,16 @@ fn turn_steps(
 {
     let v = eight(bytes, at);
     if two_short(v) {
-        return sew_short(b, bytes, at, places);
+        return sew_short(steps, b, bytes, at, places);
     }
     if two_long(v) {
-        return sew_long(b, bytes, at, places);
+        return sew_long(steps, b, bytes, at, places);
     }
     if short_long(v) {
-        return sew_short_long(b, bytes, at, places);
+        return sew_short_long(steps, b, bytes, at, places);
     }
     turn_word(
+        steps,
         b,
         bytes,
         at,
@@ -194,11 +217,12 @@ pub fn fill_steps(
     requires { ⌜ Room Pec bytes colors origin 0 places runs blocks ⌝ }
     ensures { λ q. ⌜ Ends Pec (was bytes) (was colors) places runs blocks q ⌝ }
 {
+    let steps = pec_steps();
     let mut b = new();
     let mut at: usize = 0;
     let end = last_turn(bytes.len(), 8);
     while at < end {
-        let t = turn_steps(b, bytes, at, end, colors, places, runs, blocks);
+        let t = turn_steps(&steps, b, bytes, at, end, colors, places, runs, blocks);
         b = t.b;
         at = t.at;
     }

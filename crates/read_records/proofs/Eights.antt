@@ -5,18 +5,18 @@ use mathlib.Core.Bool.{Bool, true, not, _&&_, _||_}
 use mathlib.Core.List.{List, [], _∷_}
 use native.Mathlib.Omega.{arith}
 use native.Mathlib.Nat.{add-assoc}
-use borrow.Author.Tests.{eqb-true, eq-eqb, ltb-true, leb-true}
+use borrow.Author.Tests.{eqb-true, eq-eqb, ltb-true, leb-true, lt-ltb, le-ltb}
 use lib.Bits.{bitAnd, and-block, and-le-l}
 use lib.Dec.{T, ltb, leb, eqb}
 use lib.ListN.{length, getD, drop}
 use lib.Seq.{drop-drop}
 use mir.Facts.{and-yes, ltb-yes}
-use Rattle.rules.specs.Vocabulary.{signed, all, fromLittle}
+use Rattle.rules.specs.Vocabulary.{all, fromLittle}
 use Rattle.rules.specs.Pec.{afterAxis, bothAxes, pecFirst}
 use Rattle.rules.specs.declared.Record.the-variants.{StitchBy}
 use Rattle.laws.specs.Tables.{checked}
 use Rattle.laws.specs.Tests.{is-true, and-left, and-right}
-use Rattle.read_records.specs.Words.{fourAt, eightAt, masked}
+use Rattle.read_records.specs.Words.{fourAt, eightAt, axisStep, firstPart, masked}
 use Rattle.read_records.proofs.Pecs.{axis-short, axis-long, pec-move}
 
 -- ---- masks of bytes
@@ -83,25 +83,27 @@ is-long b h e =
 
 module _ (s : List ℕ) (i : ℕ) where
   short-short : i + 1 < length s → getD s i 0 < 128 → getD s (i + 1) 0 < 128
-      → pecFirst (drop i s) ≡ StitchBy (signed 6 (getD s i 0)) (signed 6 (getD s (i + 1) 0)) 2
+      → pecFirst (drop i s) ≡ StitchBy (firstPart (getD s i 0)) (firstPart (getD s (i + 1) 0)) 2
   unfolding afterAxis bothAxes
   short-short h k l =
       pec-move s i h (λ p q. omega arith) (λ p q. omega arith)
-      ∙ rw (axis-short s i (omega arith) k, drop-drop 1 i s, axis-short s (i + 1) h l)
+      ∙ rw (axis-short s i (omega arith) k, drop-drop 1 i s, axis-short s (i + 1) h l, lt-ltb _ 128 k, lt-ltb _ 128 l)
 
   short-long : i + 2 < length s → getD s i 0 < 128 → Long (getD s (i + 1) 0)
-      → pecFirst (drop i s) ≡ StitchBy (signed 6 (getD s i 0)) (signed 11 (getD s (i + 1) 0 % 16 * 256 + getD s (i + 2) 0)) 3
+      → pecFirst (drop i s) ≡ StitchBy (firstPart (getD s i 0)) (axisStep (getD s (i + 1) 0) (getD s (i + 2) 0)) 3
   unfolding afterAxis bothAxes
   short-long h k l =
       pec-move s i (omega arith) (λ p q. omega arith) (λ p q. omega arith)
       ∙ rw (axis-short s i (omega arith) k, drop-drop 1 i s, axis-long s (i + 1) (omega arith) (l .high), l .plain, add-assoc i 1 1)
+      (rw (lt-ltb _ 128 k, le-ltb _ 128 (l .high)))
 
   long-long : i + 3 < length s → Long (getD s i 0) → Long (getD s (i + 2) 0)
-      → pecFirst (drop i s) ≡ StitchBy (signed 11 (getD s i 0 % 16 * 256 + getD s (i + 1) 0)) (signed 11 (getD s (i + 2) 0 % 16 * 256 + getD s (i + 3) 0)) 4
+      → pecFirst (drop i s) ≡ StitchBy (axisStep (getD s i 0) (getD s (i + 1) 0)) (axisStep (getD s (i + 2) 0) (getD s (i + 3) 0)) 4
   unfolding afterAxis bothAxes
   long-long h k l =
       pec-move s i (omega arith) (λ p q. omega (arith, k .plain)) (λ p q. omega (arith, k .plain))
       ∙ rw (axis-long s i (omega arith) (k .high), k .plain, drop-drop 2 i s, axis-long s (i + 2) (omega arith) (l .high), l .plain, add-assoc i 2 1)
+      (rw (le-ltb _ 128 (k .high), le-ltb _ 128 (l .high)))
 
 -- ---- two records
 
@@ -125,8 +127,8 @@ module _ (s : List ℕ) (i : ℕ) (small : (k : ℕ) → getD s k 0 < 256) where
 
   module _ (h : i + 8 ≤ length s) where
     pub two-short-here : masked 0x80808080 0 (eightAt s i) ≡ true
-        → (pecFirst (drop i s) ≡ StitchBy (signed 6 (getD s i 0)) (signed 6 (getD s (i + 1) 0)) 2)
-        × (pecFirst (drop (i + 2) s) ≡ StitchBy (signed 6 (getD s (i + 2) 0)) (signed 6 (getD s (i + 3) 0)) 2)
+        → (pecFirst (drop i s) ≡ StitchBy (firstPart (getD s i 0)) (firstPart (getD s (i + 1) 0)) 2)
+        × (pecFirst (drop (i + 2) s) ≡ StitchBy (firstPart (getD s (i + 2) 0)) (firstPart (getD s (i + 3) 0)) 2)
     unfolding bytes fromLittle all
     two-short-here e =
         let k = bits (0x80 ∷ 0x80 ∷ 0x80 ∷ 0x80 ∷ 0 ∷ 0 ∷ 0 ∷ 0 ∷ []) (0 ∷ 0 ∷ 0 ∷ 0 ∷ 0 ∷ 0 ∷ 0 ∷ 0 ∷ []) tt tt e in
@@ -137,10 +139,8 @@ module _ (s : List ℕ) (i : ℕ) (small : (k : ℕ) → getD s k 0 < 256) where
         (short-short s i (omega arith) b₀ b₁, simp (add-assoc i 2 1) at (short-short s (i + 2) (omega arith) b₂ (simp (add-assoc i 2 1) b₃)))
 
     pub two-long-here : masked 0x00B000B000B000B0 0x0080008000800080 (eightAt s i) ≡ true
-        → (pecFirst (drop i s)
-        ≡ StitchBy (signed 11 (getD s i 0 % 16 * 256 + getD s (i + 1) 0)) (signed 11 (getD s (i + 2) 0 % 16 * 256 + getD s (i + 3) 0)) 4)
-        × (pecFirst (drop (i + 4) s)
-        ≡ StitchBy (signed 11 (getD s (i + 4) 0 % 16 * 256 + getD s (i + 5) 0)) (signed 11 (getD s (i + 6) 0 % 16 * 256 + getD s (i + 7) 0)) 4)
+        → (pecFirst (drop i s) ≡ StitchBy (axisStep (getD s i 0) (getD s (i + 1) 0)) (axisStep (getD s (i + 2) 0) (getD s (i + 3) 0)) 4)
+        × (pecFirst (drop (i + 4) s) ≡ StitchBy (axisStep (getD s (i + 4) 0) (getD s (i + 5) 0)) (axisStep (getD s (i + 6) 0) (getD s (i + 7) 0)) 4)
     unfolding bytes fromLittle all
     two-long-here e =
         let k = bits (0xB0 ∷ 0 ∷ 0xB0 ∷ 0 ∷ 0xB0 ∷ 0 ∷ 0xB0 ∷ 0 ∷ []) (0x80 ∷ 0 ∷ 0x80 ∷ 0 ∷ 0x80 ∷ 0 ∷ 0x80 ∷ 0 ∷ []) tt tt e in
@@ -153,8 +153,8 @@ module _ (s : List ℕ) (i : ℕ) (small : (k : ℕ) → getD s k 0 < 256) where
         )
 
     pub short-long-here : masked 0x000000B08000B080 0x0000008000008000 (eightAt s i) ≡ true
-        → (pecFirst (drop i s) ≡ StitchBy (signed 6 (getD s i 0)) (signed 11 (getD s (i + 1) 0 % 16 * 256 + getD s (i + 2) 0)) 3)
-        × (pecFirst (drop (i + 3) s) ≡ StitchBy (signed 6 (getD s (i + 3) 0)) (signed 11 (getD s (i + 4) 0 % 16 * 256 + getD s (i + 5) 0)) 3)
+        → (pecFirst (drop i s) ≡ StitchBy (firstPart (getD s i 0)) (axisStep (getD s (i + 1) 0) (getD s (i + 2) 0)) 3)
+        × (pecFirst (drop (i + 3) s) ≡ StitchBy (firstPart (getD s (i + 3) 0)) (axisStep (getD s (i + 4) 0) (getD s (i + 5) 0)) 3)
     unfolding bytes fromLittle all
     short-long-here e =
         let k = bits (0x80 ∷ 0xB0 ∷ 0 ∷ 0x80 ∷ 0xB0 ∷ 0 ∷ 0 ∷ 0 ∷ []) (0 ∷ 0x80 ∷ 0 ∷ 0 ∷ 0x80 ∷ 0 ∷ 0 ∷ 0 ∷ []) tt tt e in

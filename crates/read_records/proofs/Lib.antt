@@ -7,5 +7,6 @@ pub mod Controls
 pub mod Halves
 pub mod Dsts
 pub mod Pecs
+pub mod PecTables
 pub mod Fours
 pub mod Eights

@@ -22,6 +22,10 @@ pastStep w = pick (ltb (w % 256) 128) (w / 256) (w / 65536)
 abbrev pub axisStep : ℕ → ℕ → ℤ
 axisStep a b = pick (ltb a 128) (signed 6 a) (signed 11 (a % 16 * 256 + b))
 
+-- what the first byte of a step adds; the second byte of a long step is added to it
+abbrev pub firstPart : ℕ → ℤ
+firstPart a = pick (ltb a 128) (signed 6 a) (signed 11 (a % 16 * 256))
+
 -- whether a step that begins with a says no jump
 abbrev pub plainStep : ℕ → Bool
 plainStep a = ltb a 128 || eqb (a / 16 % 4) 0

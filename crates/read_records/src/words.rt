@@ -5,10 +5,12 @@ use crate::bytes::signed12;
 ghost use mathlib.Core.Path.{_≡_};
 ghost use mathlib.Core.Bool.{_&&_};
 ghost use Prim.Native.Nat.{_+_, _*_, _/_, _%_, _≤_, _<_};
+ghost use lib.IntN.{pos};
 ghost use lib.ListN.{length};
 ghost use Rattle.rules.specs.Promises.{was};
-ghost use Rattle.rules.specs.Vocabulary.{signed};
-ghost use Rattle.read_records.specs.Words.{fourAt, eightAt, pastStep, axisStep, plainStep, masked};
+ghost use Rattle.rules.specs.Vocabulary.{pick};
+ghost use Rattle.read_records.specs.Tables.{PecSteps};
+ghost use Rattle.read_records.specs.Words.{fourAt, eightAt, pastStep, axisStep, firstPart, plainStep, masked};
 
 // Four bytes as one number, the first lowest.
 pub fn four(file: &[u8], at: usize) -> u32
@@ -50,23 +52,65 @@ pub fn top(w: u32) -> usize
     (w / 128 % 2) as usize
 }
 
-// A step of two bytes.
-pub fn long_step(a: u8, b: u8) -> i32
-    ensures { λ r. ⌜ r ≡ signed 11 (a % 16 * 256 + b) ⌝ }
+// What the first byte of a step adds to it.
+fn first_part(a: u8) -> i32
+    ensures { λ r. ⌜ r ≡ firstPart a ⌝ }
 {
-    signed12((a as u16) % 16 * 256 + (b as u16))
+    if a < 128 {
+        return signed7(a);
+    }
+    signed12((a as u16) % 16 * 256)
+}
+
+// 1 where a step that begins with a says no jump, else 0.
+fn plain(a: u8) -> i32
+    ensures { λ r. ⌜ r ≡ pick (plainStep a) (pos 1) (pos 0) ⌝ }
+{
+    if a < 128 {
+        return 1;
+    }
+    if a / 16 % 4 == 0 {
+        return 1;
+    }
+    0
+}
+
+// Both of each byte, for the loops that are lent it.
+pub fn pec_steps() -> [i32; 512]
+    ensures { λ t. ⌜ PecSteps t ⌝ }
+{
+    let mut steps = [0i32; 512];
+    let mut n: usize = 0;
+    while n < 256 {
+        steps[n] = first_part(n as u8);
+        steps[256 + n] = plain(n as u8);
+        n += 1;
+    }
+    steps
+}
+
+// `first_part` by the table: the whole of a step of one byte.
+pub fn first_of(steps: &[i32], a: u8) -> i32
+    requires { ⌜ PecSteps (now steps) ⌝ }
+    ensures { λ r. ⌜ r ≡ firstPart a ⌝ }
+{
+    steps[a as usize]
+}
+
+// A step that begins with a, and goes on with b where it has two bytes.
+pub fn pec_step(steps: &[i32], a: u8, b: u8) -> i32
+    requires { ⌜ PecSteps (now steps) ⌝ }
+    ensures { λ r. ⌜ r ≡ axisStep a b ⌝ }
+{
+    first_of(steps, a) + ((a / 128) as i32) * (b as i32)
 }
 
 // The step that stands lowest.
-pub fn step_of(w: u32) -> i32
+pub fn step_of(steps: &[i32], w: u32) -> i32
+    requires { ⌜ PecSteps (now steps) ⌝ }
     ensures { λ r. ⌜ r ≡ axisStep (w % 256) (w / 256 % 256) ⌝ }
 {
-    let short = signed7((w % 128) as u8);
-    let long = long_step((w % 256) as u8, (w / 256 % 256) as u8);
-    if w % 256 < 128 {
-        return short;
-    }
-    long
+    pec_step(steps, (w % 256) as u8, (w / 256 % 256) as u8)
 }
 
 // The jump bits of a step that begins with a, 0 where it has one byte.
@@ -82,6 +126,14 @@ pub fn sews(w: u32, y: u32) -> bool
     ensures { λ r. ⌜ r ≡ (plainStep (w % 256) && plainStep (y % 256)) ⌝ }
 {
     mark(w % 256) + mark(y % 256) == 0
+}
+
+// The same by the table.
+pub fn sews_by(steps: &[i32], w: u32, y: u32) -> bool
+    requires { ⌜ PecSteps (now steps) ⌝ }
+    ensures { λ r. ⌜ r ≡ (plainStep (w % 256) && plainStep (y % 256)) ⌝ }
+{
+    steps[256 + (w % 256) as usize] * steps[256 + (y % 256) as usize] == 1
 }
 
 // Whether two stitches come first whose steps have one byte each.

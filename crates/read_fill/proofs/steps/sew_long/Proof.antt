@@ -13,57 +13,53 @@ sew-requires : tie.Need-sew-requires
 sew-requires c κs =
     let s = c .before .before .before .before .before .before .before .before in
     let a = s .args in
-    let k = c .before .before .before .before .before .before .before .shared-slice-known .given in
-    let low = below (now (a .bytes)) k in
-    let t = here-long (now (a .bytes)) (a .at) low (s .pre .0) (s .pre .1 .0) in
-    let u = c .before .before .before .before .long-step in
-    let v = c .before .long-step2 in
-    rw (ret w32 (u .result) (u .ok), u .ensures, ret w32 (v .result) (v .ok), v .ensures) (can-one (now (a .bytes)) t (s .pre .1 .1))
+    let low = below (now (a .bytes)) (c .before .before .before .before .before .before .before .shared-slice-known .given) in
+    let t = here-long (now (a .bytes)) (a .at) low (s .pre .1 .0) (s .pre .1 .1 .0) in
+    let u = c .before .before .before .before .pec-step in
+    let v = c .before .pec-step2 in
+    rw (ret w32 (u .result) (u .ok), u .ensures, ret w32 (v .result) (v .ok), v .ensures) (can-one (now (a .bytes)) t (s .pre .1 .1 .1))
 
 sew-requires-2 : tie.Need-sew-requires-2
 sew-requires-2 c κs =
-    let p = c .before .before .before .before .long-step3 in let sew = c .before .before .before .before .before .before .before .before .sew in
-    let v = c .before .before .before .before .before .before .before .before .before .before .long-step2 in
-    let at-long-step = c .before .before .before .before .before .before .before .before .before .before .before .before .before in
-    let u = at-long-step .long-step in let shared-slice-known = at-long-step .before .before .before .shared-slice-known in
-    let s = at-long-step .before .before .before .before in
+    let mid = c .before .before .before .before .before .before .before .before in
+    let s = mid .before .before .before .before .before .before .before .before .before in
     let a = s .args in
-    let k = shared-slice-known .given in
-    let low = below (now (a .bytes)) k in
-    let t = here-long (now (a .bytes)) (a .at) low (s .pre .0) (s .pre .1 .0) in
-    let q = c .before .long-step4 in
-    let w = rw (ret w32 (u .result) (u .ok), u .ensures, ret w32 (v .result) (v .ok), v .ensures) at
-    (sew .ensures) in
-    rw (ret w32 (p .result) (p .ok), p .ensures, ret w32 (q .result) (q .ok), q .ensures) (can-two (now (a .bytes)) t (w .0) (now (a .places)) (w .1) (s .pre .1 .1))
+    let low = below (now (a .bytes)) (mid .before .before .before .before .before .before .before .before .shared-slice-known .given) in
+    let t = here-long (now (a .bytes)) (a .at) low (s .pre .1 .0) (s .pre .1 .1 .0) in
+    let u = mid .before .before .before .before .before .pec-step in
+    let v = mid .before .before .pec-step2 in
+    let p = c .before .before .before .before .pec-step3 in
+    let q = c .before .pec-step4 in
+    let w = rw (ret w32 (u .result) (u .ok), u .ensures, ret w32 (v .result) (v .ok), v .ensures) at (mid .sew .ensures) in
+    rw (ret w32 (p .result) (p .ok), p .ensures, ret w32 (q .result) (q .ok), q .ensures)
+    (can-two (now (a .bytes)) t (w .0) (now (a .places)) (w .1) (s .pre .1 .1 .1))
 
-add-t12 : tie.Need-add-t12
-add-t12 c =
-    let early = c .before .before .before .before .before .before .before .before .before .before .before .before in
-    let s = early .before .before .before .before .before .before .before in
-    omega (arith, s .pre .0, s .pre .1 .1 .ready .short)
+add-t13 : tie.Need-add-t13
+add-t13 c =
+    let mid = c .before .before .before .before .before .before .before .before .before in
+    let s = mid .before .before .before .before .before .before .before .before .before .before in
+    omega (arith, s .pre .1 .0, s .pre .1 .1 .1 .ready .short)
 
 returns : tie.Need-returns
 returns c =
-    let q = c .before .before .before .long-step4 in let p = c .before .before .before .before .before .before .long-step3 in
-    let sew = c .before .before .before .before .before .before .before .before .before .before .sew in
-    let at-long-step2 = c .before .before .before .before .before .before .before .before .before .before .before .before in
-    let v = at-long-step2 .long-step2 in let u = at-long-step2 .before .before .before .long-step in
-    let shared-slice-known = at-long-step2 .before .before .before .before .before .before .shared-slice-known in
-    let s = at-long-step2 .before .before .before .before .before .before .before in
+    let mid = c .before .before .before .before .before .before .before .before .before .before in
+    let s = mid .before .before .before .before .before .before .before .before .before in
     let a = s .args in
-    let k = shared-slice-known .given in
-    let low = below (now (a .bytes)) k in
-    let t = here-long (now (a .bytes)) (a .at) low (s .pre .0) (s .pre .1 .0) in
-    let w = rw (ret w32 (u .result) (u .ok), u .ensures, ret w32 (v .result) (v .ok), v .ensures) at
-    (sew .ensures) in
+    let low = below (now (a .bytes)) (mid .before .before .before .before .before .before .before .before .shared-slice-known .given) in
+    let t = here-long (now (a .bytes)) (a .at) low (s .pre .1 .0) (s .pre .1 .1 .0) in
+    let u = mid .before .before .before .before .before .pec-step in
+    let v = mid .before .before .pec-step2 in
+    let p = c .before .before .before .before .before .before .pec-step3 in
+    let q = c .before .before .before .pec-step4 in
+    let w = rw (ret w32 (u .result) (u .ok), u .ensures, ret w32 (v .result) (v .ok), v .ensures) at (mid .sew .ensures) in
     let z = rw (ret w32 (p .result) (p .ok), p .ensures, ret w32 (q .result) (q .ok), q .ensures) at (c .before .sew2 .ensures) in
-    both-sewn (now (a .bytes)) t (w .0) (now (a .places)) (w .1) (omega (arith, s .pre .0)) (z .0) (z .1) (a .at + 8) (omega arith)
+    both-sewn (now (a .bytes)) t (w .0) (now (a .places)) (w .1) (omega (arith, s .pre .1 .0)) (z .0) (z .1) (a .at + 8) (omega arith)
 
 pub sew-long-spec : {M : Type 1} → statement M
 sew-long-spec =
     tie.close
     (tie.spec
     (λ c. search needs) (λ c. search needs) (λ c. search needs) (λ c κs. search needs) (λ c. search needs) (λ c. search needs)
-    (λ c. search needs) (λ c. search needs) (λ c κs. search needs) sew-requires (λ c. search needs) (λ c. search needs) (λ c. search needs)
-    (λ c. search needs) (λ c κs. search needs) (λ c. search needs) (λ c. search needs) (λ c. search needs) (λ c. search needs)
-    (λ c κs. search needs) sew-requires-2 add-t12 (λ c. search needs) returns)
+    (λ c. search needs) (λ c. search needs) (λ c κs. search needs) sew-requires (λ c. search needs) (λ c. search needs)
+    (λ c. search needs) (λ c. search needs) (λ c κs. search needs) (λ c. search needs) (λ c. search needs) (λ c. search needs)
+    (λ c. search needs) (λ c κs. search needs) sew-requires-2 add-t13 (λ c. search needs) returns)

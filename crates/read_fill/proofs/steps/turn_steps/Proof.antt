@@ -13,7 +13,7 @@ eight-requires : tie.Need-eight-requires
 eight-requires c κs =
     let s = c .before .before .before .before in
     let a = s .args in
-    s .pre .1 .0 (a .at) (s .pre .0)
+    s .pre .1 .1 .0 (a .at) (s .pre .1 .0)
 
 sew-short-requires : tie.Need-sew-short-requires
 sew-short-requires c κs =
@@ -21,7 +21,7 @@ sew-short-requires c κs =
     let a = s .args in
     let v = c .before .before .before .eight .ensures in
     let m = ap (λ (v : ℕ). masked 0x80808080 0 v) (sym v) ∙ sym (c .before .before .two-short .ensures) ∙ c .before .if1 .taken in
-    (s .pre .1 .0 (a .at) (s .pre .0), (m, room-here (s .pre .1 .1)))
+    (s .pre .0, (s .pre .1 .1 .0 (a .at) (s .pre .1 .0), (m, room-here (s .pre .1 .1 .1))))
 
 returns : tie.Need-returns
 returns c =
@@ -34,7 +34,7 @@ sew-long-requires c κs =
     let a = s .args in
     let v = c .before .before .before .before .before .eight .ensures in
     let m = ap (λ (v : ℕ). masked 0x00B000B000B000B0 0x0080008000800080 v) (sym v) ∙ sym (c .before .before .two-long .ensures) ∙ c .before .if2 .taken in
-    (s .pre .1 .0 (a .at) (s .pre .0), (m, room-here (s .pre .1 .1)))
+    (s .pre .0, (s .pre .1 .1 .0 (a .at) (s .pre .1 .0), (m, room-here (s .pre .1 .1 .1))))
 
 returns-2 : tie.Need-returns-2
 returns-2 c =
@@ -47,7 +47,7 @@ sew-short-long-requires c κs =
     let a = s .args in
     let v = c .before .before .before .before .before .before .before .eight .ensures in
     let m = ap (λ (v : ℕ). masked 0x000000B08000B080 0x0000008000008000 v) (sym v) ∙ sym (c .before .before .short-long .ensures) ∙ c .before .if3 .taken in
-    (s .pre .1 .0 (a .at) (s .pre .0), (m, room-here (s .pre .1 .1)))
+    (s .pre .0, (s .pre .1 .1 .0 (a .at) (s .pre .1 .0), (m, room-here (s .pre .1 .1 .1))))
 
 returns-3 : tie.Need-returns-3
 returns-3 c =
@@ -63,7 +63,7 @@ turn-word-requires c κs =
     let k = shared-slice-known .given in
     let low = below (now (a .bytes)) k in
     let w = ap (λ (v : ℕ). v % 4294967296) (eight′ .ensures) ∙ low-word (now (a .bytes)) (a .at) low in
-    (s .pre .0, (s .pre .1 .0, (w, s .pre .1 .1)))
+    (s .pre .0, (s .pre .1 .0, (s .pre .1 .1 .0, (w, s .pre .1 .1 .1))))
 
 pub turn-steps-spec : {M : Type 1} → statement M
 turn-steps-spec =

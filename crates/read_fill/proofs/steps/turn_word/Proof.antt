@@ -18,147 +18,114 @@ returns : tie.Need-returns
 returns c =
     let s = c .before .before .before .before .before in
     let a = s .args in
-    let h : a .at + 8 ≤ length (now (a .bytes)) = s .pre .1 .0 (a .at) (s .pre .0) in
+    let h : a .at + 8 ≤ length (now (a .bytes)) = s .pre .1 .1 .0 (a .at) (s .pre .1 .0) in
     let k = c .before .before .before .before .shared-slice-known .given in
     let low = below (now (a .bytes)) k in
-    let e = ends-here (now (a .bytes)) (a .at) low h (s .pre .1 .1 .0) (c .if1 .taken) in
+    let e = ends-here (now (a .bytes)) (a .at) low h (s .pre .1 .1 .1 .0) (c .if1 .taken) in
     turn-end Pec (now (a .bytes)) (colourIn (now (a .colors))) (omega arith) e
 
 change-requires : tie.Need-change-requires
 change-requires c κs =
     let s = c .before .before .before .before .before .before .before .before in
     let a = s .args in
-    let h : a .at + 8 ≤ length (now (a .bytes)) = s .pre .1 .0 (a .at) (s .pre .0) in
+    let h : a .at + 8 ≤ length (now (a .bytes)) = s .pre .1 .1 .0 (a .at) (s .pre .1 .0) in
     let k = c .before .before .before .before .before .before .before .shared-slice-known .given in
     let low = below (now (a .bytes)) k in
-    let e = changes-here (now (a .bytes)) (a .at) low h (s .pre .1 .1 .0) (c .before .before .if2 .taken) in
-    can-change Pec (now (a .bytes)) (colourIn (now (a .colors))) (s .pre .1 .1 .1) e
+    let e = changes-here (now (a .bytes)) (a .at) low h (s .pre .1 .1 .1 .0) (c .before .before .if2 .taken) in
+    can-change Pec (now (a .bytes)) (colourIn (now (a .colors))) (s .pre .1 .1 .1 .1) e
 
 returns-2 : tie.Need-returns-2
 returns-2 c =
     let s = c .before .before .before .before .before .before .before .before .before .before .before .before .before in
     let a = s .args in
-    let h : a .at + 8 ≤ length (now (a .bytes)) = s .pre .1 .0 (a .at) (s .pre .0) in
+    let h : a .at + 8 ≤ length (now (a .bytes)) = s .pre .1 .1 .0 (a .at) (s .pre .1 .0) in
     let k = c .before .before .before .before .before .before .before .before .before .before .before .before .shared-slice-known .given in
     let low = below (now (a .bytes)) k in
-    let e = changes-here (now (a .bytes)) (a .at) low h (s .pre .1 .1 .0) (c .before .before .before .before .before .before .before .if2 .taken) in
+    let e = changes-here (now (a .bytes)) (a .at) low h (s .pre .1 .1 .1 .0) (c .before .before .before .before .before .before .before .if2 .taken) in
     let w = c .before .before .before .before .change .ensures in
     turn-changed Pec (now (a .bytes)) (colourIn (now (a .colors))) (omega arith) e (w .0) (w .1 .0) (w .1 .1)
 
 sew-requires : tie.Need-sew-requires
 sew-requires c κs =
-    let if3 = c .before .before .before .if3 in let sews = c .before .before .before .before .sews in
-    let past = c .before .before .before .before .before .before .before .past in
-    let if2 = c .before .before .before .before .before .before .before .before .if2 in
-    let if1 = c .before .before .before .before .before .before .before .before .before .if1 in
-    let at-shared-slice-known = c .before .before .before .before .before .before .before .before .before .before .before .before .before in
-    let shared-slice-known = at-shared-slice-known .shared-slice-known in let s = at-shared-slice-known .before in
+    let mid = c .before .before .before .before .before .before .before in
+    let s = mid .before .before .before .before .before .before .before in
     let a = s .args in
-    let h : a .at + 8 ≤ length (now (a .bytes)) = s .pre .1 .0 (a .at) (s .pre .0) in
-    let k = shared-slice-known .given in
-    let low = below (now (a .bytes)) k in
-    let y = past .ensures in
-    let p = sews .ensures in
-    let i = if1 .left in
-    let j = if2 .left in
-    let e = sews-here (now (a .bytes)) (a .at) low h (s .pre .1 .1 .0) y p i j (if3 .taken) in
+    let h : a .at + 8 ≤ length (now (a .bytes)) = s .pre .1 .1 .0 (a .at) (s .pre .1 .0) in
+    let low = below (now (a .bytes)) (mid .before .before .before .before .before .before .shared-slice-known .given) in
+    let p = c .before .before .before .before .sews-by .ensures in
+    let t = c .before .before .before .if3 .taken in
+    let e = sews-here (now (a .bytes)) (a .at) low h (s .pre .1 .1 .1 .0) (mid .past .ensures) p (mid .before .before .if1 .left) (mid .before .if2 .left) t in
     let u = c .before .before .step-of in
     let v = c .before .step-of2 in
-    rw (ret w32 (u .result) (u .ok), u .ensures, ret w32 (v .result) (v .ok), v .ensures) (can-sew Pec (now (a .bytes)) (colourIn (now (a .colors))) (s .pre .1 .1 .1) e)
+    rw (ret w32 (u .result) (u .ok), u .ensures, ret w32 (v .result) (v .ok), v .ensures)
+    (can-sew Pec (now (a .bytes)) (colourIn (now (a .colors))) (s .pre .1 .1 .1 .1) e)
 
 returns-3 : tie.Need-returns-3
 returns-3 c =
-    let v = c .before .before .before .step-of2 in let u = c .before .before .before .before .step-of in
-    let if3 = c .before .before .before .before .before .if3 in let sews = c .before .before .before .before .before .before .sews in
-    let top2 = c .before .before .before .before .before .before .before .top2 in
-    let top = c .before .before .before .before .before .before .before .before .top in
-    let past = c .before .before .before .before .before .before .before .before .before .past in
-    let if2 = c .before .before .before .before .before .before .before .before .before .before .if2 in
-    let at-if1 = c .before .before .before .before .before .before .before .before .before .before .before in let if1 = at-if1 .if1 in
-    let shared-slice-known = at-if1 .before .before .before .before .shared-slice-known in let s = at-if1 .before .before .before .before .before in
+    let mid = c .before .before .before .before .before .before .before .before .before in
+    let s = mid .before .before .before .before .before .before .before in
     let a = s .args in
-    let h : a .at + 8 ≤ length (now (a .bytes)) = s .pre .1 .0 (a .at) (s .pre .0) in
-    let k = shared-slice-known .given in
-    let low = below (now (a .bytes)) k in
-    let y = past .ensures in
-    let p = sews .ensures in
-    let i = if1 .left in
-    let j = if2 .left in
-    let e = sews-here (now (a .bytes)) (a .at) low h (s .pre .1 .1 .0) y p i j (if3 .taken) in
+    let h : a .at + 8 ≤ length (now (a .bytes)) = s .pre .1 .1 .0 (a .at) (s .pre .1 .0) in
+    let low = below (now (a .bytes)) (mid .before .before .before .before .before .before .shared-slice-known .given) in
+    let p = c .before .before .before .before .before .before .sews-by .ensures in
+    let t = c .before .before .before .before .before .if3 .taken in
+    let e = sews-here (now (a .bytes)) (a .at) low h (s .pre .1 .1 .1 .0) (mid .past .ensures) p (mid .before .before .if1 .left) (mid .before .if2 .left) t in
+    let u = c .before .before .before .before .step-of in
+    let v = c .before .before .before .step-of2 in
     let w = rw (ret w32 (u .result) (u .ok), u .ensures, ret w32 (v .result) (v .ok), v .ensures) at (c .before .sew .ensures) in
-    let m = top .ensures in
-    let n = top2 .ensures in
+    let m = c .before .before .before .before .before .before .before .before .top .ensures in
+    let n = c .before .before .before .before .before .before .before .top2 .ensures in
     turned-to (omega (arith, m, n)) (turn-sewn Pec (now (a .bytes)) (colourIn (now (a .colors))) (omega arith) e (w .0) (w .1))
 
 hop-requires : tie.Need-hop-requires
 hop-requires c κs =
-    let if3 = c .before .before .before .if3 in let sews = c .before .before .before .before .sews in
-    let past = c .before .before .before .before .before .before .before .past in
-    let if2 = c .before .before .before .before .before .before .before .before .if2 in
-    let if1 = c .before .before .before .before .before .before .before .before .before .if1 in
-    let at-shared-slice-known = c .before .before .before .before .before .before .before .before .before .before .before .before .before in
-    let shared-slice-known = at-shared-slice-known .shared-slice-known in let s = at-shared-slice-known .before in
+    let mid = c .before .before .before .before .before .before .before in
+    let s = mid .before .before .before .before .before .before .before in
     let a = s .args in
-    let h : a .at + 8 ≤ length (now (a .bytes)) = s .pre .1 .0 (a .at) (s .pre .0) in
-    let k = shared-slice-known .given in
-    let low = below (now (a .bytes)) k in
-    let y = past .ensures in
-    let p = sews .ensures in
-    let i = if1 .left in
-    let j = if2 .left in
-    let e = hops-here (now (a .bytes)) (a .at) low h (s .pre .1 .1 .0) y p i j (if3 .left) in
+    let h : a .at + 8 ≤ length (now (a .bytes)) = s .pre .1 .1 .0 (a .at) (s .pre .1 .0) in
+    let low = below (now (a .bytes)) (mid .before .before .before .before .before .before .shared-slice-known .given) in
+    let p = c .before .before .before .before .sews-by .ensures in
+    let t = c .before .before .before .if3 .left in
+    let e = hops-here (now (a .bytes)) (a .at) low h (s .pre .1 .1 .1 .0) (mid .past .ensures) p (mid .before .before .if1 .left) (mid .before .if2 .left) t in
     let u = c .before .before .step-of3 in
     let v = c .before .step-of4 in
-    rw (ret w32 (u .result) (u .ok), u .ensures, ret w32 (v .result) (v .ok), v .ensures) (can-hop Pec (now (a .bytes)) (colourIn (now (a .colors))) (s .pre .1 .1 .1) e)
+    rw (ret w32 (u .result) (u .ok), u .ensures, ret w32 (v .result) (v .ok), v .ensures)
+    (can-hop Pec (now (a .bytes)) (colourIn (now (a .colors))) (s .pre .1 .1 .1 .1) e)
 
 hop-row-requires : tie.Need-hop-row-requires
 hop-row-requires c κs =
-    let v = c .before .before .before .before .step-of4 in let u = c .before .before .before .before .before .step-of3 in
-    let if3 = c .before .before .before .before .before .before .if3 in let sews = c .before .before .before .before .before .before .before .sews in
-    let o = c .before .before .before .before .before .before .before .before .top2 in
-    let m = c .before .before .before .before .before .before .before .before .before .top in
-    let past = c .before .before .before .before .before .before .before .before .before .before .past in
-    let at-if2 = c .before .before .before .before .before .before .before .before .before .before .before in let if2 = at-if2 .if2 in
-    let if1 = at-if2 .before .if1 in let shared-slice-known = at-if2 .before .before .before .before .before .shared-slice-known in
-    let s = at-if2 .before .before .before .before .before .before in
+    let mid = c .before .before .before .before .before .before .before .before .before .before in
+    let s = mid .before .before .before .before .before .before .before in
     let a = s .args in
-    let h : a .at + 8 ≤ length (now (a .bytes)) = s .pre .1 .0 (a .at) (s .pre .0) in
-    let k = shared-slice-known .given in
-    let low = below (now (a .bytes)) k in
-    let y = past .ensures in
-    let p = sews .ensures in
-    let i = if1 .left in
-    let j = if2 .left in
-    let e = hops-here (now (a .bytes)) (a .at) low h (s .pre .1 .1 .0) y p i j (if3 .left) in
+    let h : a .at + 8 ≤ length (now (a .bytes)) = s .pre .1 .1 .0 (a .at) (s .pre .1 .0) in
+    let low = below (now (a .bytes)) (mid .before .before .before .before .before .before .shared-slice-known .given) in
+    let p = c .before .before .before .before .before .before .before .sews-by .ensures in
+    let t = c .before .before .before .before .before .before .if3 .left in
+    let e = hops-here (now (a .bytes)) (a .at) low h (s .pre .1 .1 .1 .0) (mid .past .ensures) p (mid .before .before .if1 .left) (mid .before .if2 .left) t in
+    let u = c .before .before .before .before .before .step-of3 in
+    let v = c .before .before .before .before .step-of4 in
     let w = rw (ret w32 (u .result) (u .ok), u .ensures, ret w32 (v .result) (v .ok), v .ensures) at (c .before .before .hop .ensures) in
-    let z = past .result in
-    let n : a .at + 2 + m .result + o .result ≡ a .at + (2 + a .w / 128 % 2 + z / 128 % 2) = omega (arith, m .ensures, o .ensures) in
-    (s .pre .1 .1 .1 .short, (s .pre .1 .0, can-row (now (a .bytes)) (colourIn (now (a .colors))) e (w .0) n (s .pre .1 .1 .1)))
+    let m = c .before .before .before .before .before .before .before .before .before .top in
+    let o = c .before .before .before .before .before .before .before .before .top2 in
+    let n : a .at + 2 + m .result + o .result ≡ a .at + (2 + a .w / 128 % 2 + mid .past .result / 128 % 2) = omega (arith, m .ensures, o .ensures) in
+    (s .pre .0, (s .pre .1 .1 .1 .1 .short, (s .pre .1 .1 .0, can-row (now (a .bytes)) (colourIn (now (a .colors))) e (w .0) n (s .pre .1 .1 .1 .1))))
 
 returns-4 : tie.Need-returns-4
 returns-4 c =
-    let hop = c .before .before .before .hop in let v = c .before .before .before .before .before .step-of4 in
-    let u = c .before .before .before .before .before .before .step-of3 in
-    let if3 = c .before .before .before .before .before .before .before .if3 in
-    let sews = c .before .before .before .before .before .before .before .before .sews in
-    let o = c .before .before .before .before .before .before .before .before .before .top2 in
-    let m = c .before .before .before .before .before .before .before .before .before .before .top in
-    let at-past = c .before .before .before .before .before .before .before .before .before .before .before in let past = at-past .past in
-    let if2 = at-past .before .if2 in let if1 = at-past .before .before .if1 in
-    let shared-slice-known = at-past .before .before .before .before .before .before .shared-slice-known in
-    let s = at-past .before .before .before .before .before .before .before in
+    let mid = c .before .before .before .before .before .before .before .before .before .before .before in
+    let s = mid .before .before .before .before .before .before .before in
     let a = s .args in
-    let h : a .at + 8 ≤ length (now (a .bytes)) = s .pre .1 .0 (a .at) (s .pre .0) in
-    let k = shared-slice-known .given in
-    let low = below (now (a .bytes)) k in
-    let y = past .ensures in
-    let p = sews .ensures in
-    let i = if1 .left in
-    let j = if2 .left in
-    let e = hops-here (now (a .bytes)) (a .at) low h (s .pre .1 .1 .0) y p i j (if3 .left) in
-    let w = rw (ret w32 (u .result) (u .ok), u .ensures, ret w32 (v .result) (v .ok), v .ensures) at (hop .ensures) in
-    let z = past .result in
-    let n : a .at + 2 + m .result + o .result ≡ a .at + (2 + a .w / 128 % 2 + z / 128 % 2) = omega (arith, m .ensures, o .ensures) in
+    let h : a .at + 8 ≤ length (now (a .bytes)) = s .pre .1 .1 .0 (a .at) (s .pre .1 .0) in
+    let low = below (now (a .bytes)) (mid .before .before .before .before .before .before .shared-slice-known .given) in
+    let p = c .before .before .before .before .before .before .before .before .sews-by .ensures in
+    let t = c .before .before .before .before .before .before .before .if3 .left in
+    let e = hops-here (now (a .bytes)) (a .at) low h (s .pre .1 .1 .1 .0) (mid .past .ensures) p (mid .before .before .if1 .left) (mid .before .if2 .left) t in
+    let u = c .before .before .before .before .before .before .step-of3 in
+    let v = c .before .before .before .before .before .step-of4 in
+    let w = rw (ret w32 (u .result) (u .ok), u .ensures, ret w32 (v .result) (v .ok), v .ensures) at (c .before .before .before .hop .ensures) in
+    let m = c .before .before .before .before .before .before .before .before .before .before .top in
+    let o = c .before .before .before .before .before .before .before .before .before .top2 in
+    let n : a .at + 2 + m .result + o .result ≡ a .at + (2 + a .w / 128 % 2 + mid .past .result / 128 % 2) = omega (arith, m .ensures, o .ensures) in
     turn-row (now (a .bytes)) (colourIn (now (a .colors))) e (w .0) n (omega arith) (w .1) (c .hop-row .ensures .0) (c .hop-row .ensures .1)
 
 pub turn-word-spec : {M : Type 1} → statement M
