@@ -126,7 +126,7 @@ def main():
     for path in sorted(glob.glob(os.path.join(RULES, "specs", "*.antt"))):
         module = os.path.basename(path)[:-5]
         found = re.findall(r"(?m)^unfoldable pub (\S+)", open(path, encoding="utf-8").read())
-        if found and module not in ("Samples", "Vectors"):
+        if found and module not in ("Samples", "Vectors", "Edges"):
             uses.append("use Rattle.rules.specs.%s.{%s}" % (module, ", ".join(found)))
             names += found
     ieee = ["add", "sub", "mul", "div", "neg", "lt", "ofInt", "ofBits", "round", "toBits"]

@@ -2,7 +2,7 @@
 
 use compare::bench::{hostile, one_call};
 use compare::inputs::samples;
-use compare::replay::{answers, reads, runs_layout, writes};
+use compare::replay::{answers, edges, reads, runs_layout, writes};
 use compare::{against, bench, port};
 use std::env;
 use std::ffi::OsString;
@@ -10,7 +10,7 @@ use std::io;
 use std::path::Path;
 use std::process::ExitCode;
 
-const USAGE: &str = "usage: compare samples | show EXT FILE | answers | check | \
+const USAGE: &str = "usage: compare samples | edges | show EXT FILE | answers | check | \
     reads COUNT SEED FOLDER | \
     writes COUNT SEED FOLDER | longs SEED FOLDER | against COUNT SEED [THREADS] | \
     bench [ROUNDS] | bench hostile [ROUNDS] | bench one DESIGN EXT CALL SIDE COUNT";
@@ -20,6 +20,7 @@ fn main() -> ExitCode {
     let command = words.first().and_then(|word| word.to_str());
     let done = match (command, words.len()) {
         (Some("samples"), 1) => Ok(samples::show()),
+        (Some("edges"), 1) => edges::check_all(),
         (Some("show"), 3) => show(&words[1], &words[2]),
         (Some("answers"), 1) => answers::write_all().map(|()| true),
         (Some("check"), 1) => answers::check_all(),

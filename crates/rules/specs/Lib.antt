@@ -21,3 +21,4 @@ pub mod Sewing
 pub mod Promises
 pub mod Samples
 pub mod Vectors
+pub mod Edges
