@@ -143,10 +143,11 @@ two-read {xs = xs} {ys = ys} {i = i} e l z p q r s =
 pub record Going (f : Stream) (xs ys : List ℤ) (ks : List ℕ) (d₀ : List ℕ) (base : ℕ) (d : List ℕ) (n i : ℕ) (x y : ℤ) : Type 0 where
   pub writing : Writing d₀ base (written (cmdOf f) (pos 0) (pos 0) (commands xs ys ks)) d n (bytesFrom f xs ys ks i x y)
   pub steps : Near f xs ys ks i x y
+  pub ahead : base ≤ n
 
 pub going-start : (f : Stream) (xs ys : List ℤ) (ks : List ℕ) (d : List ℕ) (base : ℕ) → Ready f xs ys ks d base → Going f xs ys ks d base d base 0 (pos 0) (pos 0)
 unfolding stepTooLong
-going-start f xs ys ks d base r = record { writing = writing-start d base _ (r .1); steps = record { near = r .0 } }
+going-start f xs ys ks d base r = record { writing = writing-start d base _ (r .1); steps = record { near = r .0 }; ahead = omega arith }
 
 module _ {f : Stream} {xs ys : List ℤ} {ks : List ℕ} {d₀ d : List ℕ} {base n i : ℕ} {x y : ℤ} (g : Going f xs ys ks d₀ base d n i x y) where
   module _ {vs : List ℕ} {j : ℕ} {x′ y′ : ℤ} (t : Turn f xs ys ks i x y vs j x′ y′) where
@@ -154,7 +155,7 @@ module _ {f : Stream} {xs ys : List ℤ} {ks : List ℕ} {d₀ d : List ℕ} {ba
     going-room = writing-room vs (bytesFrom f xs ys ks j x′ y′) (g .writing) (t .bytes)
 
     pub going-on : {d′ : List ℕ} {m : ℕ} → Put d d′ n m vs → Going f xs ys ks d₀ base d′ m j x′ y′
-    going-on p = record { writing = writing-more (g .writing) (t .bytes) p; steps = t .after }
+    going-on p = record { writing = writing-more (g .writing) (t .bytes) p; steps = t .after; ahead = omega (arith, p .ends, g .ahead) }
 
   pub going-done : length (commands xs ys ks) ≤ i → Put d₀ d base n (written (cmdOf f) (pos 0) (pos 0) (commands xs ys ks))
   unfolding written

@@ -1,5 +1,4 @@
 -- Five parts, one after the other.
-use Prim.Native.Nat.{_+_, _*_}
 use mathlib.Core.Path.{_∙_}
 use native.Mathlib.Omega.{arith}
 use denote.Ref.{now}
@@ -51,13 +50,12 @@ put-bounds-requires : tie.Need-put-bounds-requires
 put-bounds-requires c κs =
     let put-counts = c .before .before .before .before .put-counts in
     let put-label = c .before .before .before .before .before .before .before .before .put-label in
-    let color-changes = c .before .before .before .before .before .before .before .before .before .before .color-changes in
-    let at-trims = c .before .before .before .before .before .before .before .before .before .before .before in let trims = at-trims .trims in
-    let list-len = at-trims .before .list-len in let start = at-trims .before .before .before .before .before in
+    let at-trims = c .before .before .before .before .before .before .before .before .before .before .before in
+    let start = at-trims .before .before .before .before .before in
     omega (
       arith,
       after-put (length-label (now (start .args .name))) (put-label .ensures),
-      after-put (length-counts (list-len .result + 2 * trims .result) (color-changes .result)) (put-counts .ensures),
+      after-put (length-counts _ _) (put-counts .ensures),
       start .pre .1,
     )
 
@@ -80,13 +78,12 @@ put-last-requires c κs =
     let stream-bounds = c .before .before .before .before .before .before .before .stream-bounds in
     let put-counts = c .before .before .before .before .before .before .before .before .before .before .put-counts in
     let at-put-label = c .before .before .before .before .before .before .before .before .before .before .before .before .before .before in
-    let put-label = at-put-label .put-label in let color-changes = at-put-label .before .before .color-changes in
-    let trims = at-put-label .before .before .before .trims in let list-len = at-put-label .before .before .before .before .list-len in
+    let put-label = at-put-label .put-label in
     let start = at-put-label .before .before .before .before .before .before .before .before in
     omega (
       arith,
       after-put (length-label (now (start .args .name))) (put-label .ensures),
-      after-put (length-counts (list-len .result + 2 * trims .result) (color-changes .result)) (put-counts .ensures),
+      after-put (length-counts _ _) (put-counts .ensures),
       after-put
           (length-bounds (stream-bounds .result .max .x) (stream-bounds .result .min .x) (stream-bounds .result .max .y) (stream-bounds .result .min .y))
           (put-bounds .ensures),
@@ -101,14 +98,12 @@ put-end-requires c κs =
     let at-stream-bounds = c .before .before .before .before .before .before .before .before .before .before .before in
     let stream-bounds = at-stream-bounds .stream-bounds in let put-counts = at-stream-bounds .before .before .before .put-counts in
     let put-label = at-stream-bounds .before .before .before .before .before .before .before .put-label in
-    let color-changes = at-stream-bounds .before .before .before .before .before .before .before .before .before .color-changes in
-    let trims = at-stream-bounds .before .before .before .before .before .before .before .before .before .before .trims in
     let at-list-len = at-stream-bounds .before .before .before .before .before .before .before .before .before .before .before in
-    let list-len = at-list-len .list-len in let start = at-list-len .before .before .before .before in
+    let start = at-list-len .before .before .before .before in
     omega (
       arith,
       after-put (length-label (now (start .args .name))) (put-label .ensures),
-      after-put (length-counts (list-len .result + 2 * trims .result) (color-changes .result)) (put-counts .ensures),
+      after-put (length-counts _ _) (put-counts .ensures),
       after-put
           (length-bounds (stream-bounds .result .max .x) (stream-bounds .result .min .x) (stream-bounds .result .max .y) (stream-bounds .result .min .y))
           (put-bounds .ensures),

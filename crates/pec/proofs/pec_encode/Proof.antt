@@ -1,5 +1,6 @@
 -- What is written is as far as the place; what comes is what the commands left take, from the place of the last.
 use mathlib.Core.Path.{refl}
+use Prim.Native.Nat.{_≤_}
 use native.Mathlib.Omega.{arith}
 use denote.Ref.{now}
 use lib.IntN.{pos}
@@ -13,7 +14,8 @@ use Rattle.pec.proofs.pec_encode.Tie as tie
 
 abbrev Inv-loop : tie.InvT-loop
 Inv-loop xs ys kinds out₀ at n s₀ last₀ to₀ i₀ wait₀ out s last to i wait =
-    Walk xs ys kinds n i s last × Writing out₀ at (pecStitches pecStart (pos 0) (pos 0) (commands xs ys kinds)) out to (bytesFrom xs ys kinds i s last)
+    Walk xs ys kinds n i s last
+    × (Writing out₀ at (pecStitches pecStart (pos 0) (pos 0) (commands xs ys kinds)) out to (bytesFrom xs ys kinds i s last) × (at ≤ to))
 
 abbrev μ-loop : tie.MeasureT-loop
 μ-loop xs ys kinds out₀ at n s₀ last₀ to₀ i₀ wait₀ out s last to i wait = turns n i wait
@@ -24,7 +26,7 @@ loop-holds c =
     let a = start .args in
     let whole = pecStitches pecStart (pos 0) (pos 0) (commands (now (a .xs)) (now (a .ys)) (now (a .kinds))) in
     let walk = walk-start (now (a .xs)) (now (a .ys)) (now (a .kinds)) (c .before .list-len .ensures) (c .start .ensures) (start .pre .0) in
-    (walk, rw (c .start .ensures) (writing-start (now (a .out)) (a .at) whole (start .pre .1)))
+    (walk, (rw (c .start .ensures) (writing-start (now (a .out)) (a .at) whole (start .pre .1)), omega arith))
 
 -- the run that a look finds
 run : (c : tie.After-short-till Inv-loop μ-loop) → (
@@ -45,7 +47,7 @@ short-till-requires c κs =
 put-shorts-requires : tie.Need-put-shorts-requires Inv-loop μ-loop
 put-shorts-requires c κs =
     let r = run (c .before) in
-    ((r .behind .some, (r .ahead, r .inside)), (r .short, run-room r refl (c .before .before .before .before .before .loop .inv .1)))
+    ((r .behind .some, (r .ahead, r .inside)), (r .short, run-room r refl (c .before .before .before .before .before .loop .inv .1 .0)))
 
 cmd-at-requires : tie.Need-cmd-at-requires Inv-loop μ-loop
 cmd-at-requires c κs =
@@ -57,7 +59,9 @@ loop-again c =
     let put = c .before .before .before in
     let r = run (put .before .before) in
     let head = put .before .before .before .before .before .before in
-    (walk-run r (c .cmd-at .ensures) (head .before .before .before .before .before .pre .0), writing-more (head .loop .inv .1) (run-leaves r (c .cmd-at .ensures)) (put .put-shorts .ensures))
+    let inv = head .loop .inv in
+    let wrote = writing-more (inv .1 .0) (run-leaves r (c .cmd-at .ensures)) (put .put-shorts .ensures) in
+    (walk-run r (c .cmd-at .ensures) (head .before .before .before .before .before .pre .0), (wrote, omega (arith, put .put-shorts .ensures .ends, inv .1 .1)))
 
 -- the command that a turn takes
 took : (c : tie.After-step-to Inv-loop μ-loop) → (
@@ -79,7 +83,7 @@ put-steps-requires c κs =
     let asked = c .before .before .before .before in
     let t = took (asked .before) in
     let inv = asked .before .before .before .before .before .before .before .loop .inv in
-    (took-step t, going-room t (inv .1) (asked .is-going .ensures) (c .before .before .before .if2 .taken))
+    (took-step t, going-room t (inv .1 .0) (asked .is-going .ensures) (c .before .before .before .if2 .taken))
 
 loop-less-2 : tie.Need-loop-less-2 Inv-loop μ-loop
 loop-less-2 c =
@@ -92,14 +96,14 @@ loop-again-2 c =
     let t = took (asked .before) in
     let inv = asked .before .before .before .before .before .before .before .loop .inv in
     let e = going-bytes t (asked .is-going .ensures) (c .before .before .before .before .before .before .if2 .taken) in
-    (walk-still t, writing-more (inv .1) e (c .before .before .put-steps .ensures))
+    (walk-still t, (writing-more (inv .1 .0) e (c .before .before .put-steps .ensures), omega (arith, c .before .before .put-steps .ensures .ends, inv .1 .1)))
 
 put-cmd-requires : tie.Need-put-cmd-requires Inv-loop μ-loop
 put-cmd-requires c κs =
     let named = c .before .before .before in
     let t = took (named .before .before .before) in
     let inv = named .before .before .before .before .before .before .before .before .before .loop .inv in
-    (took-step t, cmd-room t (inv .1) (named .op-of .ensures))
+    (took-step t, omega (arith, cmd-room t (inv .1 .0) (named .op-of .ensures), inv .1 .1))
 
 loop-less-3 : tie.Need-loop-less-3 Inv-loop μ-loop
 loop-less-3 c =
@@ -111,13 +115,15 @@ loop-again-3 c =
     let named = c .before .before .before .before .before .before .before in
     let t = took (named .before .before .before) in
     let inv = named .before .before .before .before .before .before .before .before .before .loop .inv in
-    (walk-next t (c .next .result) _ (c .next .ensures), rw (c .next .ensures) (writing-more (inv .1) (cmd-bytes t (named .op-of .ensures)) (c .before .before .before .put-cmd .ensures)))
+    let put = c .before .before .before .put-cmd .ensures in
+    let wrote = writing-more (inv .1 .0) (cmd-bytes t (named .op-of .ensures)) put in
+    (walk-next t (c .next .result) _ (c .next .ensures), (rw (c .next .ensures) wrote, omega (arith, put .ends, inv .1 .1)))
 
 returns : tie.Need-returns Inv-loop μ-loop
 returns c =
     let a = c .before .before .before .before .before .before .args in
     let loop = c .before .loop in
-    writing-done (loop .inv .1) (no-bytes (commands (now (a .xs)) (now (a .ys)) (now (a .kinds))) (loop .i) _ _ _ (omega (arith, loop .inv .0 .count)))
+    writing-done (loop .inv .1 .0) (no-bytes (commands (now (a .xs)) (now (a .ys)) (now (a .kinds))) (loop .i) _ _ _ (omega (arith, loop .inv .0 .count)))
 
 pub pec-encode-spec : {M : Type 1} → statement M
 pec-encode-spec =
@@ -126,4 +132,5 @@ pec-encode-spec =
     Inv-loop μ-loop (λ c κs. tt) (λ c κs. tt) loop-holds (λ c κs. tt) short-till-requires put-shorts-requires
     (λ c. run-some (run (c .before .before .before .before))) cmd-at-requires (λ c. turns-run (run (c .before .before .before .before .before))) loop-again (λ c κs. tt)
     (λ c κs. here (c .before .before .before .before .loop .inv .0) (c .before .before .before .loop-test .taken)) step-to-requires (λ c. omega arith) (λ c κs. tt)
-    put-steps-requires loop-less-2 loop-again-2 (λ c κs. tt) put-cmd-requires (λ c κs. tt) loop-less-3 loop-again-3 (λ c. c .before .loop .inv .1 .same) returns)
+    put-steps-requires loop-less-2 loop-again-2 (λ c κs. tt) put-cmd-requires (λ c κs. tt) loop-less-3 loop-again-3
+    (λ c. c .before .loop .inv .1 .0 .same) returns)

@@ -51,7 +51,9 @@ unfolding dstCmd dstBytes
 put-two-requires c κs =
     let head = c .before .before .before .before .before .before .before .before .before .before in
     let t = two c in
-    (t .first, (t .second, (head .before .before .before .before .before .before .pre .1, going-room (head .loop .inv .1 .1 .1) (t .turn))))
+    let g = head .loop .inv .1 .1 .1 in
+    let room : head .loop .to + 6 ≤ length (head .loop .out) = going-room g (t .turn) in
+    (t .first, (t .second, (head .before .before .before .before .before .before .pre .1, omega (arith, room, g .ahead))))
 
 loop-again : tie.Need-loop-again Inv-loop μ-loop
 loop-again c =
