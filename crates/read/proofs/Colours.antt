@@ -1,11 +1,12 @@
 -- Stored colours as the blocks take them. Assumes nothing.
-use Prim.Native.Nat.{ℕ, zero, suc, _≤_}
-use mathlib.Core.Path.{_≡_, refl, _∙_}
+use Prim.Native.Nat.{ℕ, zero, suc, _%_, _≤_}
+use mathlib.Core.Path.{_≡_, refl, ap, _∙_}
 use mathlib.Core.List.{List, [], _∷_}
 use native.Mathlib.Decide.{decLt}
 use native.Mathlib.Omega.{arith}
 use lib.IntN.{ℤ}
-use lib.ListN.{length, take, getD, List·getD-eq-default}
+use borrow.Author.Tests.{lt-ltb, le-ltb}
+use lib.ListN.{length, take, getD}
 use lib.Seq.{getD-take, length-take-le}
 use Rattle.rules.specs.Answers.{blocks, blockOf, pointsAfter, begunAfter}
 use Rattle.rules.specs.Files.{orDefault}
@@ -13,10 +14,8 @@ use Rattle.read_records.specs.Firsts.{firstOf}
 use Rattle.rules.specs.Records.{Event, stitch, jump, change, events}
 use Rattle.rules.specs.declared.Format.{Format}
 use Rattle.rules.specs.declared.ReadAnswer.{ReadAnswer}
-use Rattle.rules.specs.declared.Slot.{Slot}
-use Rattle.rules.specs.declared.Slot.the-variants.{Empty, Thread}
-use Rattle.read_header.specs.Colors.{Held, Stored}
-use Rattle.read_builder.proofs.Colours.{cell}
+use Rattle.rules.specs.Layout.{Stored, nothing, shade, charted}
+use Rattle.read_header.specs.Colors.{Held, Cells}
 use Rattle.read_builder.specs.Colour.{colourIn}
 use Rattle.read.specs.Answered.{RecordsGiven}
 
@@ -34,17 +33,18 @@ module _ (c d : ℕ → ℕ) (e : (k : ℕ) → c k ≡ d k) where
   blocks-same k m n (jump dx dy ∷ es) = blocks-same k m 0 es
   blocks-same k m n (change dx dy ∷ es) = rw (block-same k m, blocks-same (suc k) 0 0 es)
 
-held : (s : Slot) (n k : ℕ) → Held s n → n ≡ orDefault s k
+held : (s : Stored) (n k : ℕ) → Held s n → n % 16777216 ≡ orDefault s k
 unfolding orDefault
-held Empty n k h = absurd h
-held (Thread c) n k h = h
+held nothing n k h = absurd h
+held (shade c) n k h = h .low
+held (charted e c) n k h = h .low
 
 -- the first r cells, and then the defaults
-pub stored-colour : (f : ℕ → Slot) (cells : List ℕ) (r : ℕ) → Stored f cells r → r ≤ length cells → (k : ℕ) → colourIn (take r cells) k ≡ orDefault (f k) k
+pub stored-colour : (f : ℕ → Stored) (cells : List ℕ) (r : ℕ) → Cells f cells r → r ≤ length cells → (k : ℕ) → colourIn (take r cells) k ≡ orDefault (f k) k
 unfolding colourIn
 stored-colour f cells r s h k = elim (decLt k r) [
-  | yes l ↦ getD-take r cells k (orDefault Empty k) l ∙ cell cells k (orDefault Empty k) 0 (omega arith) ∙ held (f k) (getD cells k 0) k (s .here k l)
-  | no l ↦ List·getD-eq-default (take r cells) (orDefault Empty k) (omega (arith, length-take-le r cells h)) ∙ rw (s .past k (omega arith))
+  | yes l ↦ rw (length-take-le r cells h, lt-ltb k r l) (ap (λ (n : ℕ). n % 16777216) (getD-take r cells k 0 l) ∙ held (f k) (getD cells k 0) k (s .here k l))
+  | no l ↦ rw (length-take-le r cells h, le-ltb k r (omega arith), s .past k (omega arith))
 ]
 
 -- the same answers by other names of the colours and the bytes

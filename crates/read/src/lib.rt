@@ -3,13 +3,12 @@
 use formats::extension_of;
 use read_count::count;
 use read_fill::fill;
-use read_header::Word;
 use read_header::dst_colors;
-use read_header::i32le;
 use read_header::jef_colors;
 use read_header::part;
 use read_header::pec_colors;
 use read_passes::ample;
+use read_refusals::Head;
 use read_refusals::Opening;
 use read_refusals::front;
 use rules::BLOCK_CELLS;
@@ -22,16 +21,15 @@ use rules::Refusal;
 ghost use mathlib.Core.Path.{_≡_};
 ghost use mathlib.Core.Bool.{false};
 ghost use Prim.Native.Nat.{_+_, _≤_, _<_};
-ghost use lib.ListN.{length, drop};
-ghost use Rattle.rules.specs.Files.{orDefault};
-ghost use Rattle.rules.specs.Pec.{pecColor};
+ghost use lib.ListN.{length, drop, getD};
 ghost use Rattle.rules.specs.Jef.{jefRecords};
+ghost use Rattle.rules.specs.Text.{wordAt};
 ghost use Rattle.rules.specs.Refusals.{extensionOf};
 ghost use Rattle.rules.specs.Promises.{was, left, ReadOf};
 ghost use Rattle.rules.specs.declared.Extension.the-variants.{Of};
-ghost use Rattle.rules.specs.declared.Format.the-variants.{Pec, Dst, Exp, Jef};
 ghost use Rattle.read_builder.specs.Colour.{colourIn};
-ghost use Rattle.read.specs.Answered.{Answered, FileAnswered, Opened, roomFor};
+ghost use Rattle.read_refusals.specs.declared.Head.the-variants.{Pec, Dst, Exp, Jef};
+ghost use Rattle.read.specs.Answered.{Answered, HeadAnswered, Opened, roomFor};
 
 // Whether the answers fit: refusal 11 if not.
 fn has_room(c: Counts, places: usize, runs: usize, blocks: usize) -> bool
@@ -71,23 +69,26 @@ fn read_records(
 // The bytes from a place on.
 fn rest(file: &[u8], from: usize) -> &[u8]
     ensures { λ r. ⌜ now r ≡ drop from (was file) ⌝ }
+    ensures { λ r. ⌜ length (now r) ≤ length (was file) ⌝ }
 {
     part(file, from, file.len())
 }
 
-// A PEC part that begins at start.
+// A PEC part by its start and its count byte.
 fn read_pec(
     file: &[u8],
     start: usize,
+    count: u8,
     places: &mut [i32],
     runs: &mut [u32],
     blocks: &mut [u32],
 ) -> ReadAnswer
     requires { ⌜ (length (now file) ≤ 2097152) × (start < length (now file)) ⌝ }
-    ensures { λ r. ⌜ Answered (λ k. orDefault (pecColor start (was file) k) k) Pec (drop (start + 528) (was file)) places runs blocks r ⌝ }
+    requires { ⌜ count ≡ getD (now file) (start + 48) 0 ⌝ }
+    ensures { λ r. ⌜ HeadAnswered (Pec start count) (was file) places runs blocks r ⌝ }
 {
     let mut colors = [0u32; 256];
-    let n = pec_colors(file, start, &mut colors);
+    let n = pec_colors(file, start, count, &mut colors);
     read_records(
         Format::Pec,
         rest(file, start + 528),
@@ -100,7 +101,7 @@ fn read_pec(
 
 fn read_dst(file: &[u8], places: &mut [i32], runs: &mut [u32], blocks: &mut [u32]) -> ReadAnswer
     requires { ⌜ length (now file) ≤ 2097152 ⌝ }
-    ensures { λ r. ⌜ FileAnswered Dst (was file) places runs blocks r ⌝ }
+    ensures { λ r. ⌜ HeadAnswered Dst (was file) places runs blocks r ⌝ }
 {
     let mut colors = [0u32; 256];
     let n = dst_colors(file, &mut colors);
@@ -117,36 +118,39 @@ fn read_dst(file: &[u8], places: &mut [i32], runs: &mut [u32], blocks: &mut [u32
 // EXP stores no colours.
 fn read_exp(file: &[u8], places: &mut [i32], runs: &mut [u32], blocks: &mut [u32]) -> ReadAnswer
     requires { ⌜ length (now file) ≤ 2097152 ⌝ }
-    ensures { λ r. ⌜ FileAnswered Exp (was file) places runs blocks r ⌝ }
+    ensures { λ r. ⌜ HeadAnswered Exp (was file) places runs blocks r ⌝ }
 {
     let none = [0u32; 1];
     read_records(Format::Exp, file, &none[..0], places, runs, blocks)
 }
 
 // The stitches of a JEF file: from its offset on, none if that is below zero.
-fn jef_stitches(file: &[u8]) -> &[u8]
-    requires { ⌜ 4 ≤ length (now file) ⌝ }
+fn jef_stitches(file: &[u8], offset: i32) -> &[u8]
+    requires { ⌜ wordAt 0 (now file) ≡ offset ⌝ }
     ensures { λ r. ⌜ now r ≡ jefRecords (was file) ⌝ }
 {
-    let word = i32le(file, 0);
-    let Word::Number(offset) = word else {
-        return &file[..0];
-    };
     if offset < 0 {
         return &file[..0];
     }
     rest(file, offset as usize)
 }
 
-fn read_jef(file: &[u8], places: &mut [i32], runs: &mut [u32], blocks: &mut [u32]) -> ReadAnswer
-    requires { ⌜ (length (now file) ≤ 2097152) × (4 ≤ length (now file)) ⌝ }
-    ensures { λ r. ⌜ FileAnswered Jef (was file) places runs blocks r ⌝ }
+fn read_jef(
+    file: &[u8],
+    offset: i32,
+    places: &mut [i32],
+    runs: &mut [u32],
+    blocks: &mut [u32],
+) -> ReadAnswer
+    requires { ⌜ length (now file) ≤ 2097152 ⌝ }
+    requires { ⌜ wordAt 0 (now file) ≡ offset ⌝ }
+    ensures { λ r. ⌜ HeadAnswered (Jef offset) (was file) places runs blocks r ⌝ }
 {
     let mut colors = [0u32; 256];
     let n = jef_colors(file, &mut colors);
     read_records(
         Format::Jef,
-        jef_stitches(file),
+        jef_stitches(file, offset),
         &colors[..n],
         places,
         runs,
@@ -154,23 +158,22 @@ fn read_jef(file: &[u8], places: &mut [i32], runs: &mut [u32], blocks: &mut [u32
     )
 }
 
-// A file that is not refused, its part beginning at start.
+// A file that is not refused, by what its opening told.
 fn read_part(
-    f: Format,
+    head: Head,
     file: &[u8],
-    start: usize,
     places: &mut [i32],
     runs: &mut [u32],
     blocks: &mut [u32],
 ) -> ReadAnswer
-    requires { ⌜ Opened f (now file) start ⌝ }
-    ensures { λ r. ⌜ FileAnswered f (was file) places runs blocks r ⌝ }
+    requires { ⌜ Opened head (now file) ⌝ }
+    ensures { λ r. ⌜ HeadAnswered head (was file) places runs blocks r ⌝ }
 {
-    match f {
-        Format::Pes | Format::Pec => read_pec(file, start, places, runs, blocks),
-        Format::Dst => read_dst(file, places, runs, blocks),
-        Format::Exp => read_exp(file, places, runs, blocks),
-        Format::Jef => read_jef(file, places, runs, blocks),
+    match head {
+        Head::Pec { start, count } => read_pec(file, start, count, places, runs, blocks),
+        Head::Dst => read_dst(file, places, runs, blocks),
+        Head::Exp => read_exp(file, places, runs, blocks),
+        Head::Jef { offset } => read_jef(file, offset, places, runs, blocks),
     }
 }
 
@@ -186,7 +189,7 @@ pub fn read_stitch_file(
 {
     let found = front(f, file);
     match found {
-        Opening::At(start) => read_part(f, file, start, places, runs, blocks),
+        Opening::At(head) => read_part(head, file, places, runs, blocks),
         Opening::Not(why) => ReadAnswer::Unread(why),
     }
 }

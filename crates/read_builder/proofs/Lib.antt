@@ -1,6 +1,5 @@
 -- What the proofs cite, here and in the crates above.
 pub mod Parts
-pub mod Colours
 pub mod Places
 pub mod Lent
 pub mod Methods

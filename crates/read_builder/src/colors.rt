@@ -2,8 +2,8 @@
 // A port of src/formats/read.rs of zigzag, changed.
 ghost use mathlib.Core.Path.{_≡_};
 ghost use Rattle.rules.specs.Files.{orDefault};
+ghost use Rattle.rules.specs.Layout.{nothing};
 ghost use Rattle.rules.specs.Promises.{was};
-ghost use Rattle.rules.specs.declared.Slot.the-variants.{Empty};
 ghost use Rattle.read_builder.specs.Colour.{colourIn};
 
 const DEFAULT_COLORS: [u32; 8] = [
@@ -18,18 +18,18 @@ const DEFAULT_COLORS: [u32; 8] = [
 ];
 
 fn default_color(k: u32) -> u32
-    ensures { λ r. ⌜ r ≡ orDefault Empty k ⌝ }
+    ensures { λ r. ⌜ r ≡ orDefault nothing k ⌝ }
 {
     DEFAULT_COLORS[(k % 8) as usize]
 }
 
-// The stored colour of block k, or else a default by its number.
+// The stored colour of block k, or else a default by its number. A cell has the chart entry above the 24 bits of the colour.
 pub fn color_of(colors: &[u32], k: u32) -> u32
     ensures { λ r. ⌜ r ≡ colourIn (was colors) k ⌝ }
 {
     let i = k as usize;
     if i < colors.len() {
-        return colors[i];
+        return colors[i] % 16777216;
     }
     default_color(k)
 }

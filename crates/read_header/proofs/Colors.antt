@@ -1,24 +1,23 @@
 -- Laws on a table of colours that a loop fills. Assumes nothing.
-use Prim.Native.Nat.{ℕ, zero, suc, _+_, _*_, _-_, _%_, _≤_, _<_, min}
+use Prim.Native.Nat.{ℕ, suc, _+_, _*_, _-_, _≤_, _<_, min}
 use mathlib.Core.Path.{_≡_, refl, sym, ap, subst, _∙_}
 use mathlib.Core.Bool.{Bool, true, false, _&&_, and-false}
-use mathlib.Core.List.{List, [], _∷_, map}
+use mathlib.Core.List.{List, [], _∷_}
 use native.Mathlib.Omega.{arith}
 use native.Mathlib.Decide.{decLt}
 use borrow.Author.Tests.{lt-ltb, le-ltb, lt-leb, le-leb}
 use lib.Dec.{leb}
 use lib.IntN.{ℤ, pos, natAbs}
 use lib.Signed.{leZ, ltZ}
-use lib.ListN.{length, getD, set, take, drop, length-set, length-take, length-map}
-use lib.Seq.{getD-set-same, getD-set-other, getD-take, ext-getD}
+use lib.ListN.{length, getD, set, take, drop, length-set}
+use lib.Seq.{getD-set-same, getD-set-other}
 use Rattle.rules.specs.Vocabulary.{pick}
-use Rattle.rules.specs.Files.{colorNumber}
 use Rattle.rules.specs.Text.{begins, linesOf, trimmed, wordAt}
 use Rattle.rules.specs.Dst.{lineColor, lineColors, addColor, sixDigits, dropHashes, beforeComma}
-use Rattle.rules.specs.Layout.{slotAt}
-use Rattle.rules.specs.Pec.{pecColor}
-use Rattle.rules.specs.Jef.{jefCount, jefColor}
-use Rattle.rules.specs.Charts.{color, pecChart, jefChart}
+use Rattle.rules.specs.Layout.{Stored, nothing, shade, shadeAt, fromChart}
+use Rattle.rules.specs.Pec.{pecEntry, pecStored}
+use Rattle.rules.specs.Jef.{jefCount, jefEntry, jefStored}
+use Rattle.rules.specs.Charts.{pecChart, jefChart}
 use Rattle.rules.specs.declared.Color.{Color}
 use Rattle.rules.specs.declared.Slot.{Slot}
 use Rattle.rules.specs.declared.Slot.the-variants.{Empty, Thread}
@@ -27,11 +26,11 @@ use Rattle.laws.specs.Tests.{by-test, pick-true, pick-false, pick-both}
 use Rattle.read_header.specs.Words.{wordOf}
 use Rattle.read_header.specs.declared.Word.the-variants.{Number, Missing}
 use Rattle.read_header.specs.Lines.{linesFrom, Line}
-use Rattle.read_header.specs.Colors.{Held, Stored, nextCell, cellsAfter}
+use Rattle.read_header.specs.Colors.{Held, Cells, Added}
 use Rattle.read_header.proofs.Lines.{begun-long, lines-all, lines-none}
 
 -- one cell more
-pub held-more : (f : ℕ → Slot) (cells : List ℕ) (i v : ℕ) → i < length cells → Held (f i) v
+pub held-more : (f : ℕ → Stored) (cells : List ℕ) (i v : ℕ) → i < length cells → Held (f i) v
     → ((k : ℕ) → k < i → Held (f k) (getD cells k 0)) → (k : ℕ) → k < i + 1 → Held (f k) (getD (set cells i v) k 0)
 held-more f cells i v l h w k lt = elim (decLt k i) [
   | yes p ↦ rw (getD-set-other cells i k v 0 (λ e. omega arith)) (w k p)
@@ -44,70 +43,50 @@ held-more f cells i v l h w k lt = elim (decLt k i) [
 pub record Listed (whole rest : List Color) (cells : List ℕ) (n at : ℕ) : Type 0 where
   pub size : 256 ≤ length cells
   pub bytes : 4 * n ≤ at
-  pub held : (k : ℕ) → k < n → Held (slotAt whole k) (getD cells k 0)
-  pub after : (j : ℕ) → slotAt whole (n + j) ≡ slotAt rest j
-  pub count : length whole ≡ n + length rest
+  pub held : (k : ℕ) → k < n → Held (shadeAt whole k) (getD cells k 0)
+  pub after : (j : ℕ) → shadeAt whole (n + j) ≡ shadeAt rest j
 
 pub listed-start : (whole : List Color) (cells : List ℕ) → 256 ≤ length cells → Listed whole whole cells 0 0
 listed-start whole cells e = record {
   size = e;
   bytes = omega arith;
   held = λ k l. absurd (omega arith);
-  after = λ j. let p : 0 + j ≡ j = omega arith in ap (slotAt whole) p;
-  count = omega arith;
+  after = λ j. let p : 0 + j ≡ j = omega arith in ap (shadeAt whole) p;
 }
 
--- the number of the colour at a place of a list
-held-at : (whole : List Color) (i x : ℕ) → i < length whole → Held (slotAt whole i) x → x ≡ getD (map colorNumber whole) i 0
-unfolding slotAt
-held-at [] i x l h = absurd (omega arith)
-held-at (c ∷ whole) zero x l h = h
-held-at (c ∷ whole) (suc i) x l h = held-at whole i x (omega arith) h
-
-cells-are : (whole : List Color) (cells : List ℕ) (n : ℕ) → n ≡ length whole → n ≤ length cells
-    → ((k : ℕ) → k < n → Held (slotAt whole k) (getD cells k 0)) → take n cells ≡ map colorNumber whole
-cells-are whole cells n e l h =
-    let p : length (take n cells) ≡ n = omega (arith, length-take n cells) in
-    ext-getD 0 (take n cells) (map colorNumber whole) (omega (arith, length-map whole colorNumber))
-    (λ i lt. getD-take n cells i 0 (omega arith) ∙ held-at whole i (getD cells i 0) (omega arith) (h i (omega arith)))
-
 pub listed-done : (whole : List Color) {rest : List Color} {cells : List ℕ} {n at : ℕ} → rest ≡ [] → at ≤ 513 → Listed whole rest cells n at
-    → (Stored (slotAt whole) cells n × ((n ≡ length whole) × (take n cells ≡ map colorNumber whole)))
-unfolding slotAt
-listed-done whole {rest} {cells} {n} {at} e l w =
-    let r : n ≡ length whole = omega (arith, w .count, ap length e) in (
-      record {
-        room = omega (arith, w .bytes);
-        here = w .held;
-        past = λ k h. let p : k ≡ n + (k - n) = omega arith in ap (slotAt whole) p ∙ w .after (k - n) ∙ ap (λ (t : List Color). slotAt t (k - n)) e;
-      },
-      (r, cells-are whole cells n r (omega (arith, w .bytes, w .size)) (w .held)),
-    )
+    → Cells (shadeAt whole) cells n
+unfolding shadeAt
+listed-done whole {rest} {cells} {n} {at} e l w = record {
+  room = omega (arith, w .bytes);
+  here = w .held;
+  past = λ k h. let p : k ≡ n + (k - n) = omega arith in ap (shadeAt whole) p ∙ w .after (k - n) ∙ ap (λ (t : List Color). shadeAt t (k - n)) e;
+}
 
 module _ (whole : List Color) (cells : List ℕ) (n at e : ℕ) (room : n < 256) where
-  one-more : (t : Color) (rest : List Color) → 3 ≤ e - at → Listed whole (t ∷ rest) cells n at → Listed whole rest (set cells n (colorNumber t)) (n + 1) (e + 1)
-  unfolding slotAt
-  one-more t rest l w =
-      let h : slotAt whole n ≡ Thread t = let p : n + 0 ≡ n = omega arith in ap (slotAt whole) (sym p) ∙ w .after 0 in
+  one-more : (t : Color) (rest : List Color) {v : ℕ} → Held (shade t) v → 3 ≤ e - at → Listed whole (t ∷ rest) cells n at
+      → Listed whole rest (set cells n v) (n + 1) (e + 1)
+  unfolding shadeAt
+  one-more t rest {v} g l w =
+      let h : shadeAt whole n ≡ shade t = let p : n + 0 ≡ n = omega arith in ap (shadeAt whole) (sym p) ∙ w .after 0 in
       record {
-        size = omega (arith, length-set cells n (colorNumber t), w .size);
+        size = omega (arith, length-set cells n v, w .size);
         bytes = omega (arith, w .bytes);
-        held = held-more (slotAt whole) cells n (colorNumber t) (omega (arith, w .size)) (subst (λ (s : Slot). Held s (colorNumber t)) (sym h) refl) (w .held);
-        after = λ j. let p : n + 1 + j ≡ n + suc j = omega arith in ap (slotAt whole) p ∙ w .after (suc j);
-        count = omega (arith, w .count);
+        held = held-more (shadeAt whole) cells n v (omega (arith, w .size)) (subst (λ (s : Stored). Held s v) (sym h) g) (w .held);
+        after = λ j. let p : n + 1 + j ≡ n + suc j = omega arith in ap (shadeAt whole) p ∙ w .after (suc j);
       }
 
-  pub listed-more : (c : Slot) {rest rest′ : List Color} → rest ≡ addColor c rest′ → at ≤ e → ((t : Color) → c ≡ Thread t → 3 ≤ e - at)
-      → Listed whole rest cells n at → Listed whole rest′ (cellsAfter c n cells) (nextCell c n) (e + 1)
+  pub listed-more : (c : Slot) {rest rest′ : List Color} {r : ℕ} {cells′ : List ℕ} → Added c n cells r cells′ → rest ≡ addColor c rest′ → at ≤ e
+      → ((t : Color) → c ≡ Thread t → 3 ≤ e - at) → Listed whole rest cells n at → Listed whole rest′ cells′ r (e + 1)
   unfolding addColor
-  listed-more Empty {rest} {rest′} p l long w = record {
+  listed-more Empty {rest} {rest′} g p l long w = rw (g .0, g .1) (record {
     size = w .size;
     bytes = omega (arith, w .bytes);
     held = w .held;
-    after = λ j. w .after j ∙ ap (λ (t : List Color). slotAt t j) p;
-    count = omega (arith, w .count, ap length p);
-  }
-  listed-more (Thread t) {rest} {rest′} p l long w = one-more t rest′ (long t refl) (subst (λ (r : List Color). Listed whole r cells n at) p w)
+    after = λ j. w .after j ∙ ap (λ (t : List Color). shadeAt t j) p;
+  })
+  listed-more (Thread t) {rest} {rest′} g p l long w =
+      rw (g .0, g .1 .1 .1) (one-more t rest′ (g .1 .1 .0) (long t refl) (subst (λ (r : List Color). Listed whole r cells n at) p w))
 
 -- a line that gives a colour begins with three bytes
 pub color-long : (l : List ℕ) (t : Color) → lineColor l ≡ Thread t → 3 ≤ length l
@@ -132,12 +111,12 @@ colors-all s = ap lineColors (lines-all s)
 -- ---- PEC and JEF: a colour that is stored, and those past the last
 
 module _ (start : ℕ) (s : List ℕ) (k : ℕ) where
-  pub pec-held : {v : ℕ} → k ≤ getD s (start + 48) 0 → v ≡ colorNumber (getD pecChart (getD s (start + 49 + k) 0 % 65) (color 0 0 0)) → Held (pecColor start s k) v
-  unfolding pecColor
-  pec-held h e = rw (le-leb k (getD s (start + 48) 0) h) e
+  pub pec-held : (v : ℕ) → k ≤ getD s (start + 48) 0 → Held (fromChart pecChart (pecEntry start s k)) v → Held (pecStored start s k) v
+  unfolding pecStored
+  pec-held v h e = rw (le-leb k (getD s (start + 48) 0) h) e
 
-  pub pec-past : getD s (start + 48) 0 < k → pecColor start s k ≡ Empty
-  unfolding pecColor
+  pub pec-past : getD s (start + 48) 0 < k → pecStored start s k ≡ nothing
+  unfolding pecStored
   pec-past h = rw (lt-leb k (getD s (start + 48) 0) h)
 
 pub jef-most : (s : List ℕ) → jefCount s ≤ 256
@@ -145,17 +124,16 @@ unfolding jefCount
 jef-most s = pick-both (λ (n : ℕ). n ≤ 256) (leb 28 (length s) && leZ (pos 0) (wordAt 24 s)) (omega arith) (omega arith)
 
 module _ (s : List ℕ) (k : ℕ) where
-  pub jef-held : {v : ℕ} → k < jefCount s → 120 + 4 * k ≤ length s
-      → v ≡ colorNumber (getD jefChart (natAbs (wordAt (116 + 4 * k) s) % 79) (color 0 0 0)) → Held (jefColor s k) v
-  unfolding jefColor
-  jef-held h l e = rw (lt-ltb k (jefCount s) h, le-leb (120 + 4 * k) (length s) l) e
+  pub jef-held : (v : ℕ) → k < jefCount s → 120 + 4 * k ≤ length s → Held (fromChart jefChart (jefEntry s k)) v → Held (jefStored s k) v
+  unfolding jefStored
+  jef-held v h l e = rw (lt-ltb k (jefCount s) h, le-leb (120 + 4 * k) (length s) l) e
 
-  pub jef-past : jefCount s ≤ k → jefColor s k ≡ Empty
-  unfolding jefColor
+  pub jef-past : jefCount s ≤ k → jefStored s k ≡ nothing
+  unfolding jefStored
   jef-past h = rw (le-ltb k (jefCount s) h)
 
-  pub jef-cut : length s < 120 + 4 * k → jefColor s k ≡ Empty
-  unfolding jefColor
+  pub jef-cut : length s < 120 + 4 * k → jefStored s k ≡ nothing
+  unfolding jefStored
   jef-cut h = rw (lt-leb (120 + 4 * k) (length s) h, and-false)
 
 -- ---- a number that is there, and one that is missing

@@ -5,8 +5,8 @@ use rules::DST_HEADER;
 use rules::Slot;
 ghost use mathlib.Core.Path.{_≡_};
 ghost use mathlib.Core.Bool.{_&&_};
-ghost use mathlib.Core.List.{[], _∷_, map};
-ghost use Prim.Native.Nat.{_+_, _*_, _-_, _%_, _≤_, _<_, min};
+ghost use mathlib.Core.List.{[], _∷_};
+ghost use Prim.Native.Nat.{_+_, _*_, _≤_, _<_, min};
 ghost use lib.Dec.{leb};
 ghost use lib.IntN.{natAbs};
 ghost use lib.ListN.{length, take, drop, getD};
@@ -14,15 +14,15 @@ ghost use Rattle.rules.specs.Vocabulary.{signed};
 ghost use Rattle.rules.specs.Files.{colorNumber};
 ghost use Rattle.rules.specs.Text.{blank, trimStart, trimEnd, trimmed, linesOf, begins, wordAt};
 ghost use Rattle.rules.specs.Dst.{lastLabel, hexDigit, hexPair, hexColor, sixDigits, dropHashes, beforeComma, lineColor, lineColors};
-ghost use Rattle.rules.specs.Layout.{slotAt};
-ghost use Rattle.rules.specs.Pec.{pecColor};
-ghost use Rattle.rules.specs.Jef.{jefCount, jefColor};
-ghost use Rattle.rules.specs.Charts.{color, pecChart, jefChart};
+ghost use Rattle.rules.specs.Layout.{shadeAt, charted, fromChart};
+ghost use Rattle.rules.specs.Pec.{pecEntry, pecStored};
+ghost use Rattle.rules.specs.Jef.{jefCount, jefEntry, jefStored};
+ghost use Rattle.rules.specs.Charts.{pecChart, jefChart};
 ghost use Rattle.rules.specs.Promises.{was, left};
 ghost use Rattle.read_header.specs.Words.{wordOf};
 ghost use Rattle.read_header.specs.Lines.{Line};
 ghost use Rattle.read_header.specs.Spans.{Holds};
-ghost use Rattle.read_header.specs.Colors.{Stored, nextCell, cellsAfter};
+ghost use Rattle.read_header.specs.Colors.{Held, Cells, Added};
 
 // A number, or a file that ends before it.
 pub enum Word {
@@ -359,30 +359,36 @@ pub fn line_color(line: &[u8]) -> Slot
     Slot::Empty
 }
 
-// A colour as one number.
-pub fn number_of(c: Color) -> u32
-    ensures { λ r. ⌜ r ≡ colorNumber c ⌝ }
+// A colour as one number, of 24 bits.
+fn number_of(c: Color) -> u32
+    ensures { λ r. ⌜ (r ≡ colorNumber c) × (r < 16777216) ⌝ }
 {
     65536 * (c.0 as u32) + 256 * (c.1 as u32) + (c.2 as u32)
 }
 
-// Puts a colour at cell n, if there is one, and tells the next cell.
+// What is stored for a block as one cell: the chart entry above the 24 bits of the colour.
+fn cell_of(entry: u8, c: Color) -> u32
+    ensures { λ r. ⌜ Held (charted entry c) r ⌝ }
+{
+    16777216 * (entry as u32) + number_of(c)
+}
+
+// Puts a colour of no chart at cell n, if there is one, and reports the next cell.
 fn put_color(s: Slot, n: usize, colors: &mut [u32]) -> usize
     requires { ⌜ n < length (now colors) ⌝ }
-    ensures { λ r. ⌜ (r ≡ nextCell s n) × (left colors ≡ cellsAfter s n (was colors)) ⌝ }
+    ensures { λ r. ⌜ Added s n (was colors) r (left colors) ⌝ }
 {
     let Slot::Thread(c) = s else {
         return n;
     };
-    colors[n] = number_of(c);
+    colors[n] = cell_of(255, c);
     n + 1
 }
 
 // The colours of the `TC:` lines of a text.
 fn line_colors(s: &[u8], colors: &mut [u32]) -> usize
     requires { ⌜ (length (now s) ≤ 512) × (256 ≤ length (now colors)) ⌝ }
-    ensures { λ r. ⌜ Stored (slotAt (lineColors (linesOf (was s)))) (left colors) r ⌝ }
-    ensures { λ r. ⌜ (r ≡ length (lineColors (linesOf (was s)))) × (take r (left colors) ≡ map colorNumber (lineColors (linesOf (was s)))) ⌝ }
+    ensures { λ r. ⌜ Cells (shadeAt (lineColors (linesOf (was s)))) (left colors) r ⌝ }
 {
     let mut n = 0;
     let mut at = 0;
@@ -398,9 +404,7 @@ fn line_colors(s: &[u8], colors: &mut [u32]) -> usize
 // The colours of a DST file.
 pub fn dst_colors(file: &[u8], colors: &mut [u32]) -> usize
     requires { ⌜ 256 ≤ length (now colors) ⌝ }
-    ensures { λ r. ⌜ Stored (slotAt (lineColors (linesOf (take 512 (was file))))) (left colors) r ⌝ }
-    ensures { λ r. ⌜ r ≡ length (lineColors (linesOf (take 512 (was file)))) ⌝ }
-    ensures { λ r. ⌜ take r (left colors) ≡ map colorNumber (lineColors (linesOf (take 512 (was file)))) ⌝ }
+    ensures { λ r. ⌜ Cells (shadeAt (lineColors (linesOf (take 512 (was file))))) (left colors) r ⌝ }
 {
     line_colors(part(file, 0, DST_HEADER), colors)
 }
@@ -418,25 +422,25 @@ fn byte_at(file: &[u8], start: usize, k: usize) -> u8
     file[start + k]
 }
 
-// The colour of entry k of a PEC part, as a number.
-fn pec_number(file: &[u8], start: usize, k: usize) -> u32
+// The cell of block k of a PEC part.
+fn pec_cell(file: &[u8], start: usize, k: usize) -> u32
     requires { ⌜ k < 256 ⌝ }
-    ensures { λ r. ⌜ r ≡ colorNumber (getD pecChart (getD (was file) (start + 49 + k) 0 % 65) (color 0 0 0)) ⌝ }
+    ensures { λ r. ⌜ Held (fromChart pecChart (pecEntry start (was file) k)) r ⌝ }
 {
-    let b = byte_at(file, start, 49 + k);
-    number_of(pec_data::pec_thread((b % 65) as usize))
+    let entry = byte_at(file, start, 49 + k) % 65;
+    cell_of(entry, pec_data::pec_thread(entry as usize))
 }
 
 // The colours of a PEC part that begins at start: one more than its count byte says.
-pub fn pec_colors(file: &[u8], start: usize, colors: &mut [u32]) -> usize
+pub fn pec_colors(file: &[u8], start: usize, count: u8, colors: &mut [u32]) -> usize
     requires { ⌜ 256 ≤ length (now colors) ⌝ }
-    ensures { λ r. ⌜ Stored (pecColor start (was file)) (left colors) r ⌝ }
-    ensures { λ r. ⌜ r ≡ getD (was file) (start + 48) 0 + 1 ⌝ }
+    requires { ⌜ count ≡ getD (now file) (start + 48) 0 ⌝ }
+    ensures { λ r. ⌜ Cells (pecStored start (was file)) (left colors) r ⌝ }
 {
-    let n = (byte_at(file, start, 48) as usize) + 1;
+    let n = (count as usize) + 1;
     let mut k = 0;
     while k < n {
-        colors[k] = pec_number(file, start, k);
+        colors[k] = pec_cell(file, start, k);
         k += 1;
     }
     n
@@ -471,22 +475,23 @@ fn jef_count(file: &[u8]) -> usize
     256
 }
 
-// The colour of entry k of a JEF file, which is wholly there, as a number.
-fn jef_number(file: &[u8], k: usize) -> u32
+// The cell of block k of a JEF file, whose entry is wholly there.
+fn jef_cell(file: &[u8], k: usize) -> u32
     requires { ⌜ (k < 256) × (120 + 4 * k ≤ length (now file)) ⌝ }
-    ensures { λ r. ⌜ r ≡ colorNumber (getD jefChart (natAbs (wordAt (116 + 4 * k) (was file)) % 79) (color 0 0 0)) ⌝ }
+    ensures { λ r. ⌜ Held (fromChart jefChart (jefEntry (was file) k)) r ⌝ }
 {
     let w = i32le(file, 116 + 4 * k);
     let Word::Number(z) = w else {
         return 0;
     };
-    number_of(jef_data::jef_thread(magnitude(z) % 79))
+    let entry = magnitude(z) % 79;
+    cell_of(entry as u8, jef_data::jef_thread(entry))
 }
 
 // The colours of a JEF file: as many as it says, as far as they are in the file.
 pub fn jef_colors(file: &[u8], colors: &mut [u32]) -> usize
     requires { ⌜ 256 ≤ length (now colors) ⌝ }
-    ensures { λ r. ⌜ Stored (jefColor (was file)) (left colors) r ⌝ }
+    ensures { λ r. ⌜ Cells (jefStored (was file)) (left colors) r ⌝ }
 {
     let n = jef_count(file);
     let mut k = 0;
@@ -494,7 +499,7 @@ pub fn jef_colors(file: &[u8], colors: &mut [u32]) -> usize
         if file.len() < 120 + 4 * k {
             return k;
         }
-        colors[k] = jef_number(file, k);
+        colors[k] = jef_cell(file, k);
         k += 1;
     }
     k

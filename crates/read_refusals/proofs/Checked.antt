@@ -6,9 +6,9 @@ use mathlib.Core.List.{List, [], _∷_}
 use native.Mathlib.Omega.{arith}
 use borrow.Author.Tests.{lt-ltb, le-ltb, ltb-true, ltb-false, leb-true, leb-false}
 use lib.Dec.{leb, ltb}
-use lib.IntN.{pos, natAbs}
+use lib.IntN.{ℤ, pos, natAbs}
 use lib.Signed.{ltZ}
-use lib.ListN.{length}
+use lib.ListN.{length, getD}
 use Rattle.rules.specs.Refusals.{verdict}
 use Rattle.rules.specs.Pec.{noCount}
 use Rattle.rules.specs.Pes.{partAt}
@@ -18,8 +18,9 @@ use Rattle.rules.specs.declared.Format.{Format}
 use Rattle.rules.specs.declared.Format.the-variants.{Pes, Pec, Dst, Exp, Jef}
 use Rattle.rules.specs.declared.Refusal.the-variants.{FileTooLong, NotPes, FileTooShort, StartBelowZero}
 use Rattle.laws.specs.Tests.{by-test}
-use Rattle.read_refusals.specs.Openings.{byteOf, partStart, started, frontOf, pecFront, pesFront, dstFront, jefFront}
+use Rattle.read_refusals.specs.Openings.{byteOf, started, frontOf, pecFront, pesFront, dstFront, jefFront}
 use Rattle.read_refusals.specs.declared.Byte.the-variants.{Value, Missing}
+use Rattle.read_refusals.specs.declared.Head.the-variants as head
 use Rattle.read_refusals.specs.declared.Opening.the-variants.{At, Not}
 
 never : {b : ℕ} → Value b ≡ Missing → ⊥
@@ -27,8 +28,8 @@ never e = let z : _≡_ {A = ℕ} 0 1 = cc in omega arith
 
 -- a byte that is there, and one that is missing
 module _ (start k : ℕ) (s : List ℕ) where
-  pub byte-there : {b : ℕ} → byteOf start k s ≡ Value b → start + k < length s
-  byte-there e = by-test (ltb (start + k) (length s)) (ltb-true _ _) (λ t. absurd (never (sym (rw t at e))))
+  pub byte-there : {b : ℕ} → byteOf start k s ≡ Value b → (start + k < length s) × (b ≡ getD s (start + k) 0)
+  byte-there e = by-test (ltb (start + k) (length s)) (λ t. let v = rw t at e in (ltb-true _ _ t, cc)) (λ t. absurd (never (sym (rw t at e))))
 
   pub byte-missing : byteOf start k s ≡ Missing → length s ≤ start + k
   byte-missing e = by-test (ltb (start + k) (length s)) (λ t. absurd (never (rw t at e))) (ltb-false _ _)
@@ -36,16 +37,16 @@ module _ (start k : ℕ) (s : List ℕ) where
 -- ---- the checks that a format has
 
 module _ (start : ℕ) (s : List ℕ) where
-  pub counted : start + 48 < length s → At start ≡ pecFront start s
+  pub counted : {b : ℕ} → (start + 48 < length s) × (b ≡ getD s (start + 48) 0) → At (head.Pec start b) ≡ pecFront start s
   unfolding pecFront
-  counted h = rw (lt-ltb (start + 48) (length s) h)
+  counted h = rw (h .1, lt-ltb (start + 48) (length s) (h .0))
 
   pub uncounted : length s ≤ start + 48 → Not FileTooShort ≡ pecFront start s
   unfolding pecFront
   uncounted h = rw (le-ltb (start + 48) (length s) h)
 
   -- the check of the count byte, as the rules say it
-  count-byte : pecFront start s ≡ started (verdict ((FileTooShort, leb (length s) (start + 48)) ∷ [])) start
+  count-byte : pecFront start s ≡ started (verdict ((FileTooShort, leb (length s) (start + 48)) ∷ [])) (head.Pec start (getD s (start + 48) 0))
   unfolding pecFront verdict
   count-byte = by-test (leb (length s) (start + 48))
       (λ e. rw (e, le-ltb (start + 48) (length s) (leb-true _ _ e)))
@@ -67,24 +68,24 @@ module _ (s : List ℕ) where
       pes-below e = rw (b, le-ltb (length s) 12 h, e)
 
       pub pes-start : ltZ (wordAt 8 s) (pos 0) ≡ false → pecFront (natAbs (wordAt 8 s)) s ≡ pesFront s
-      unfolding pesFront verdict noCount partStart partAt
+      unfolding pesFront verdict noCount partAt
       pes-start e = rw (b, le-ltb (length s) 12 h, e) (count-byte (natAbs (wordAt 8 s)) s)
 
   pub dst-short : length s < 512 → Not FileTooShort ≡ dstFront s
   unfolding dstFront verdict
   dst-short h = rw (lt-ltb (length s) 512 h)
 
-  pub dst-whole : 512 ≤ length s → At 0 ≡ dstFront s
-  unfolding dstFront verdict partStart
+  pub dst-whole : 512 ≤ length s → At head.Dst ≡ dstFront s
+  unfolding dstFront verdict
   dst-whole h = rw (le-ltb (length s) 512 h)
 
   pub jef-short : length s < 4 → Not FileTooShort ≡ jefFront s
   unfolding jefFront verdict
   jef-short h = rw (lt-ltb (length s) 4 h)
 
-  pub jef-whole : 4 ≤ length s → At 0 ≡ jefFront s
-  unfolding jefFront verdict partStart
-  jef-whole h = rw (le-ltb (length s) 4 h)
+  pub jef-whole : {z : ℤ} → 4 ≤ length s → wordAt 0 s ≡ z → At (head.Jef z) ≡ jefFront s
+  unfolding jefFront verdict
+  jef-whole h e = rw (le-ltb (length s) 4 h, e)
 
   -- ---- every format: first that the file is not too long
 
@@ -98,15 +99,15 @@ module _ (s : List ℕ) where
     of-pes = rw (le-ltb 2097152 (length s) h)
 
     pub of-pec : pecFront 8 s ≡ frontOf Pec s
-    unfolding frontOf fileRefusals verdict noCount partStart
+    unfolding frontOf fileRefusals verdict noCount
     of-pec = rw (le-ltb 2097152 (length s) h) (count-byte 8 s)
 
     pub of-dst : dstFront s ≡ frontOf Dst s
     unfolding frontOf dstFront fileRefusals verdict
     of-dst = rw (le-ltb 2097152 (length s) h)
 
-    pub of-exp : At 0 ≡ frontOf Exp s
-    unfolding frontOf fileRefusals verdict partStart
+    pub of-exp : At head.Exp ≡ frontOf Exp s
+    unfolding frontOf fileRefusals verdict
     of-exp = rw (le-ltb 2097152 (length s) h)
 
     pub of-jef : jefFront s ≡ frontOf Jef s

@@ -1,26 +1,29 @@
 -- The label that a file's opening leaves it. Assumes nothing.
 use Prim.Native.Nat.{ℕ}
-use mathlib.Core.Path.{_≡_, refl, sym, _∙_}
+use mathlib.Core.Path.{_≡_, refl, sym, ap, subst, _∙_}
 use mathlib.Core.List.{List}
 use native.Mathlib.Omega.{arith}
 use Rattle.read_header.specs.Spans.{Holds}
 use Rattle.read_header.specs.declared.Span.{Span}
 use Rattle.rules.specs.Refusals.{verdict}
+use Rattle.rules.specs.Pec.{pecLabel}
 use Rattle.rules.specs.Files.{fileRefusals, fileVerdict, labelOf, labelUnder, labelTold}
 use Rattle.rules.specs.declared.Extension.{Extension}
 use Rattle.rules.specs.declared.Extension.the-variants.{Of, Unknown}
 use Rattle.rules.specs.declared.Format.{Format}
+use Rattle.rules.specs.declared.Format.the-variants.{Pes, Pec, Dst, Exp, Jef}
 use Rattle.rules.specs.declared.Refusal.{Refusal}
 use Rattle.rules.specs.declared.Refusal.the-variants.{UnknownExtension}
 use Rattle.rules.specs.declared.Verdict.{Verdict}
 use Rattle.rules.specs.declared.Verdict.the-variants.{Accepted, Refused}
 use Rattle.read_refusals.specs.Labels.{labelAnswered}
-use Rattle.read_refusals.specs.Openings.{partStart, started, frontOf}
+use Rattle.read_refusals.specs.Openings.{headOf, labelBy, started, frontOf}
+use Rattle.read_refusals.specs.declared.Head.{Head}
 use Rattle.read_refusals.specs.declared.LabelAnswer.{LabelAnswer}
 use Rattle.read_refusals.specs.declared.LabelAnswer.the-variants as answer
 use Rattle.read_refusals.specs.declared.Opening.the-variants.{At, Not}
 
-never : {n : ℕ} {r : Refusal} → At n ≡ Not r → ⊥
+never : {h : Head} {r : Refusal} → At h ≡ Not r → ⊥
 never e = let z : _≡_ {A = ℕ} 0 1 = cc in omega arith
 
 never-found : {p : Span} {r : Refusal} → answer.Found p ≡ answer.Not r → ⊥
@@ -31,25 +34,34 @@ abbrev pub nowhere : Span
 nowhere = record { start = 0; len = 0 }
 
 -- ---- from the opening to the answer, by the verdict
-module _ (n : ℕ) (s label : List ℕ) where
-  none-under : (v : Verdict) {r : Refusal} → started v n ≡ Not r → labelAnswered v s (labelUnder v label) (answer.Not r)
+module _ (h : Head) (s label : List ℕ) where
+  none-under : (v : Verdict) {r : Refusal} → started v h ≡ Not r → labelAnswered v s (labelUnder v label) (answer.Not r)
   none-under Accepted e = never e
   none-under (Refused q) e = cc
 
-  whole-under : (v : Verdict) {m : ℕ} {p : Span} → started v n ≡ At m → (m ≡ n) × (Holds p s label → labelAnswered v s (labelUnder v label) (answer.Found p))
+  whole-under : (v : Verdict) {g : Head} {p : Span} → started v h ≡ At g → (g ≡ h) × (Holds p s label → labelAnswered v s (labelUnder v label) (answer.Found p))
   unfolding labelUnder
-  whole-under Accepted e = (cc, λ h. h)
+  whole-under Accepted e = (cc, λ w. w)
   whole-under (Refused q) e = absurd (never (sym e))
+
+label-by : (f : Format) (s : List ℕ) → labelBy (headOf f s) s ≡ labelOf f s
+unfolding labelOf pecLabel
+label-by Pes s = refl
+label-by Pec s = refl
+label-by Dst s = refl
+label-by Exp s = refl
+label-by Jef s = refl
 
 module _ (f : Format) (s : List ℕ) where
   pub no-label : {r : Refusal} → frontOf f s ≡ Not r → labelAnswered (fileVerdict (Of f) s) s (labelTold (Of f) s) (answer.Not r)
   unfolding frontOf labelTold fileVerdict
-  no-label e = none-under (partStart f s) s (labelOf f s) (verdict (fileRefusals f s)) e
+  no-label e = none-under (headOf f s) s (labelOf f s) (verdict (fileRefusals f s)) e
 
-  pub its-label : {m : ℕ} {p : Span} → frontOf f s ≡ At m
-      → (m ≡ partStart f s) × (Holds p s (labelOf f s) → labelAnswered (fileVerdict (Of f) s) s (labelTold (Of f) s) (answer.Found p))
+  pub its-label : {g : Head} {p : Span} → frontOf f s ≡ At g → Holds p s (labelBy g s) → labelAnswered (fileVerdict (Of f) s) s (labelTold (Of f) s) (answer.Found p)
   unfolding frontOf labelTold fileVerdict
-  its-label e = whole-under (partStart f s) s (labelOf f s) (verdict (fileRefusals f s)) e
+  its-label {g} {p} e h =
+      let w = whole-under (headOf f s) s (labelOf f s) (verdict (fileRefusals f s)) {p = p} e in
+      w .1 (subst (Holds p s) (ap (λ (k : Head). labelBy k s) (w .0) ∙ label-by f s) h)
 
 pub unknown-label : (e : Extension) (s : List ℕ) → e ≡ Unknown → labelAnswered (fileVerdict e s) s (labelTold e s) (answer.Not UnknownExtension)
 unfolding fileVerdict verdict

@@ -1,4 +1,4 @@
-// What a file's first bytes tell: whether the file is refused, where its own part begins, and its label.
+// What a file's first bytes tell: whether the file is refused, what its reading goes on from, and its label.
 // A port of src/formats/read.rs of zigzag, changed.
 use formats::extension_of;
 use read_header::Span;
@@ -15,13 +15,13 @@ use rules::Refusal;
 ghost use mathlib.Core.Path.{_≡_};
 ghost use mathlib.Core.List.{[], _∷_};
 ghost use Rattle.read_header.specs.Spans.{Holds};
-ghost use Rattle.rules.specs.Files.{fileVerdict, labelOf, labelTold};
+ghost use Rattle.rules.specs.Files.{fileVerdict, labelTold};
 ghost use Rattle.rules.specs.Text.{begins};
 ghost use Rattle.rules.specs.Refusals.{extensionOf};
 ghost use Rattle.rules.specs.Promises.{was};
 ghost use Rattle.rules.specs.declared.Extension.the-variants.{Of};
 ghost use Rattle.read_refusals.specs.Labels.{labelAnswered};
-ghost use Rattle.read_refusals.specs.Openings.{byteOf, partStart, pecFront, pesFront, dstFront, jefFront, frontOf};
+ghost use Rattle.read_refusals.specs.Openings.{byteOf, labelBy, pecFront, pesFront, dstFront, jefFront, frontOf};
 
 // A byte, or a file that ends before it.
 pub enum Byte {
@@ -29,9 +29,17 @@ pub enum Byte {
     Missing,
 }
 
-// Where the file's own part begins, or why the file is refused.
+// What the reading of a file goes on from: a PEC part's start and its count byte, a JEF file's offset.
+pub enum Head {
+    Pec { start: usize, count: u8 },
+    Dst,
+    Exp,
+    Jef { offset: i32 },
+}
+
+// That, or why the file is refused.
 pub enum Opening {
-    At(usize),
+    At(Head),
     Not(Refusal),
 }
 
@@ -77,11 +85,10 @@ fn begins_pes(file: &[u8]) -> bool
 fn pec_front(file: &[u8], start: usize) -> Opening
     ensures { λ r. ⌜ r ≡ pecFront start (was file) ⌝ }
 {
-    let count = byte_of(file, start, 48);
-    let Byte::Value(_) = count else {
+    let Byte::Value(count) = byte_of(file, start, 48) else {
         return Opening::Not(Refusal::FileTooShort);
     };
-    Opening::At(start)
+    Opening::At(Head::Pec { start, count })
 }
 
 // A PES says where its PEC part begins.
@@ -91,8 +98,7 @@ fn pes_front(file: &[u8]) -> Opening
     if !begins_pes(file) {
         return Opening::Not(Refusal::NotPes);
     }
-    let word = i32le(file, 8);
-    let Word::Number(start) = word else {
+    let Word::Number(start) = i32le(file, 8) else {
         return Opening::Not(Refusal::FileTooShort);
     };
     if start < 0 {
@@ -107,20 +113,19 @@ fn dst_front(file: &[u8]) -> Opening
     if file.len() < DST_HEADER {
         return Opening::Not(Refusal::FileTooShort);
     }
-    Opening::At(0)
+    Opening::At(Head::Dst)
 }
 
 fn jef_front(file: &[u8]) -> Opening
     ensures { λ r. ⌜ r ≡ jefFront (was file) ⌝ }
 {
-    let word = i32le(file, 0);
-    let Word::Number(_) = word else {
+    let Word::Number(offset) = i32le(file, 0) else {
         return Opening::Not(Refusal::FileTooShort);
     };
-    Opening::At(0)
+    Opening::At(Head::Jef { offset })
 }
 
-// Refusals 2 to 5, and where the part begins if there is none of them.
+// Refusals 2 to 5, and what the reading goes on from if there is none of them.
 pub fn front(f: Format, file: &[u8]) -> Opening
     ensures { λ r. ⌜ r ≡ frontOf f (was file) ⌝ }
 {
@@ -131,20 +136,20 @@ pub fn front(f: Format, file: &[u8]) -> Opening
         Format::Pes => pes_front(file),
         Format::Pec => pec_front(file, 8),
         Format::Dst => dst_front(file),
-        Format::Exp => Opening::At(0),
+        Format::Exp => Opening::At(Head::Exp),
         Format::Jef => jef_front(file),
     }
 }
 
-// Where the label of a file stands whose part begins at start.
-fn label_of_at(f: Format, file: &[u8], start: usize) -> Span
-    requires { ⌜ start ≡ partStart f (now file) ⌝ }
-    ensures { λ r. ⌜ Holds r (was file) (labelOf f (was file)) ⌝ }
+// Where the label of a file stands whose opening is known.
+fn label_of_at(head: Head, file: &[u8]) -> Span
+    ensures { λ r. ⌜ Holds r (was file) (labelBy head (was file)) ⌝ }
 {
-    match f {
-        Format::Pes | Format::Pec => pec_label_at(file, start),
-        Format::Dst => dst_label_at(file),
-        Format::Exp | Format::Jef => Span { start: 0, len: 0 },
+    match head {
+        Head::Pec { start, .. } => pec_label_at(file, start),
+        Head::Dst => dst_label_at(file),
+        Head::Exp => Span { start: 0, len: 0 },
+        Head::Jef { .. } => Span { start: 0, len: 0 },
     }
 }
 
@@ -154,7 +159,7 @@ fn label_answer_in(f: Format, file: &[u8]) -> LabelAnswer
 {
     let found = front(f, file);
     match found {
-        Opening::At(start) => LabelAnswer::Found(label_of_at(f, file, start)),
+        Opening::At(head) => LabelAnswer::Found(label_of_at(head, file)),
         Opening::Not(why) => LabelAnswer::Not(why),
     }
 }

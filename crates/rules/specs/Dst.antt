@@ -14,7 +14,7 @@ use Rattle.rules.specs.Lists.{opOf, isChange, isTrim, written, lastX, la
 use Rattle.rules.specs.Charts.{color}
 use Rattle.rules.specs.Records.{events}
 use Rattle.rules.specs.Text.{trimmed, linesOf, begins}
-use Rattle.rules.specs.Layout.{Layout, slotAt}
+use Rattle.rules.specs.Layout.{Layout, shadeAt}
 use Rattle.rules.specs.declared.Cmd.{Cmd}
 use Rattle.rules.specs.declared.Color.{Color}
 use Rattle.rules.specs.declared.Op.{Op}
@@ -206,5 +206,5 @@ dstLayout = record {
   refusals = λ s. (FileTooShort, ltb (length s) dstHeader) ∷ [];
   events = λ s. events dstFirst (drop dstHeader s);
   label = λ s. trimmed (lastLabel [] (linesOf (take dstHeader s)));
-  stored = λ s. slotAt (lineColors (linesOf (take dstHeader s)));
+  stored = λ s. shadeAt (lineColors (linesOf (take dstHeader s)));
 }

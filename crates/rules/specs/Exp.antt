@@ -8,13 +8,12 @@ use lib.Dec.{eqb}
 use Rattle.rules.specs.Vocabulary.{pick, signed, bitsOf}
 use Rattle.rules.specs.Lists.{written}
 use Rattle.rules.specs.Records.{events}
-use Rattle.rules.specs.Layout.{Layout}
+use Rattle.rules.specs.Layout.{Layout, nothing}
 use Rattle.rules.specs.declared.Cmd.{Cmd}
 use Rattle.rules.specs.declared.Op.{Op}
 use Rattle.rules.specs.declared.Op.the-variants.{Stitch, Jump, Trim, ColorChange, End}
 use Rattle.rules.specs.declared.Record.{Record}
 use Rattle.rules.specs.declared.Record.the-variants.{StitchBy, JumpBy, ChangeBy, Finish}
-use Rattle.rules.specs.declared.Slot.the-variants.{Empty}
 
 -- what control 02 does: a stitch in EXP, a jump in JEF
 unfoldable pub two : Bool → ℤ → ℤ → Record
@@ -68,5 +67,5 @@ expLayout = record {
   refusals = λ s. [];
   events = events (pairFirst false);
   label = λ s. [];
-  stored = λ s k. Empty;
+  stored = λ s k. nothing;
 }

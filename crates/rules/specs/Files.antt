@@ -11,6 +11,7 @@ use Rattle.rules.specs.Lists.{commands}
 use Rattle.rules.specs.Refusals.{numberOf, verdict, listRefusals}
 use Rattle.rules.specs.Charts.{color}
 use Rattle.rules.specs.Records.{Event}
+use Rattle.rules.specs.Layout.{Stored, nothing, shade, charted}
 use Rattle.rules.specs.Formats.{layoutOf}
 use Rattle.rules.specs.Answers.{places, runs, blocks, pointTotal, blockTotal, cuts}
 use Rattle.rules.specs.declared.Cmd.{Cmd}
@@ -23,8 +24,6 @@ use Rattle.rules.specs.declared.ReadAnswer.{ReadAnswer}
 use Rattle.rules.specs.declared.ReadAnswer.the-variants.{Read, Unread}
 use Rattle.rules.specs.declared.Refusal.{Refusal}
 use Rattle.rules.specs.declared.Refusal.the-variants.{UnknownExtension, FileTooLong, BufferTooShort}
-use Rattle.rules.specs.declared.Slot.{Slot}
-use Rattle.rules.specs.declared.Slot.the-variants.{Empty, Thread}
 use Rattle.rules.specs.declared.Verdict.{Verdict}
 use Rattle.rules.specs.declared.Verdict.the-variants.{Accepted, Refused}
 use Rattle.rules.specs.declared.WriteAnswer.{WriteAnswer}
@@ -43,7 +42,7 @@ eventsOf f s = layoutOf f .events s
 unfoldable pub labelOf : Format → List ℕ → List ℕ
 labelOf f s = layoutOf f .label s
 
-unfoldable pub stored : Format → List ℕ → ℕ → Slot
+unfoldable pub stored : Format → List ℕ → ℕ → Stored
 stored f s k = layoutOf f .stored s k
 
 -- DEFAULT_COLORS
@@ -56,9 +55,10 @@ unfoldable pub colorNumber : Color → ℕ
 colorNumber c = 65536 * c .0 + 256 * c .1 + c .2
 
 -- A block takes the stored colour of its number, or else entry number modulo 8 of the defaults.
-unfoldable pub orDefault : Slot → ℕ → ℕ
-orDefault Empty k = colorNumber (getD defaults (k % 8) (color 0 0 0))
-orDefault (Thread c) k = colorNumber c
+unfoldable pub orDefault : Stored → ℕ → ℕ
+orDefault nothing k = colorNumber (getD defaults (k % 8) (color 0 0 0))
+orDefault (shade c) k = colorNumber c
+orDefault (charted e c) k = colorNumber c
 
 unfoldable pub colourOf : Format → List ℕ → ℕ → ℕ
 colourOf f s k = orDefault (stored f s k) k

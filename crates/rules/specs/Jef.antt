@@ -9,11 +9,11 @@ use lib.Dec.{ltb, leb}
 use lib.ListN.{length, drop, getD, replicate}
 use Rattle.rules.specs.Vocabulary.{pick, bitsOf, little, joined}
 use Rattle.rules.specs.Lists.{opOf, written, width, height, threadsOf}
-use Rattle.rules.specs.Charts.{color, jefChart}
+use Rattle.rules.specs.Charts.{jefChart}
 use Rattle.rules.specs.Choices.{jefEntries}
 use Rattle.rules.specs.Records.{events}
 use Rattle.rules.specs.Text.{wordAt}
-use Rattle.rules.specs.Layout.{Layout}
+use Rattle.rules.specs.Layout.{Layout, Stored, nothing, fromChart}
 use Rattle.rules.specs.Exp.{pairFirst, pairOf}
 use Rattle.rules.specs.declared.Cmd.{Cmd}
 use Rattle.rules.specs.declared.Color.{Color}
@@ -21,8 +21,6 @@ use Rattle.rules.specs.declared.Op.{Op}
 use Rattle.rules.specs.declared.Op.the-variants.{Stitch, Jump, Trim, ColorChange, End}
 use Rattle.rules.specs.declared.Previous.the-variants.{First}
 use Rattle.rules.specs.declared.Refusal.the-variants.{FileTooShort}
-use Rattle.rules.specs.declared.Slot.{Slot}
-use Rattle.rules.specs.declared.Slot.the-variants.{Empty, Thread}
 
 -- ---- reading
 
@@ -34,12 +32,13 @@ jefRecords s = pick (leZ (pos 0) (wordAt 0 s)) (drop (natAbs (wordAt 0 s)) s) []
 unfoldable pub jefCount : List ℕ → ℕ
 jefCount s = pick (leb 28 (length s) && leZ (pos 0) (wordAt 24 s)) (min (natAbs (wordAt 24 s)) 256) 0
 
--- the entry at 116 + 4 k, wholly in the file: its absolute value modulo 79
-unfoldable pub jefColor : List ℕ → ℕ → Slot
-jefColor s k =
-    pick (ltb k (jefCount s) && leb (120 + 4 * k) (length s))
-    (Thread (getD jefChart (natAbs (wordAt (116 + 4 * k) s) % 79) (color 0 0 0)))
-    Empty
+-- the entry of block k: the absolute value of the number at 116 + 4 k, modulo 79
+unfoldable pub jefEntry : List ℕ → ℕ → ℕ
+jefEntry s k = natAbs (wordAt (116 + 4 * k) s) % 79
+
+-- stored for k below the count, as far as the number is wholly in the file
+unfoldable pub jefStored : List ℕ → ℕ → Stored
+jefStored s k = pick (ltb k (jefCount s) && leb (120 + 4 * k) (length s)) (fromChart jefChart (jefEntry s k)) nothing
 
 -- ---- writing
 
@@ -135,5 +134,5 @@ jefLayout = record {
   refusals = λ s. (FileTooShort, ltb (length s) 4) ∷ [];
   events = λ s. events (pairFirst true) (jefRecords s);
   label = λ s. [];
-  stored = jefColor;
+  stored = jefStored;
 }

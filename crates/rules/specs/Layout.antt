@@ -3,12 +3,18 @@ use Prim.Native.Nat.{ℕ, zero, suc}
 use mathlib.Core.Bool.{Bool}
 use mathlib.Core.List.{List, [], _∷_}
 use lib.IntN.{ℤ}
+use lib.ListN.{getD}
+use Rattle.rules.specs.Charts.{color}
 use Rattle.rules.specs.Records.{Event}
 use Rattle.rules.specs.declared.Cmd.{Cmd}
 use Rattle.rules.specs.declared.Color.{Color}
 use Rattle.rules.specs.declared.Refusal.{Refusal}
-use Rattle.rules.specs.declared.Slot.{Slot}
-use Rattle.rules.specs.declared.Slot.the-variants.{Empty, Thread}
+
+-- what a file stores for a block: nothing, a colour of no chart, or an entry of a chart and the entry's colour
+pub data Stored : Type 0 where
+  nothing : Stored
+  shade : Color → Stored
+  charted : ℕ → Color → Stored
 
 pub record Layout : Type 0 where
   -- its extension, in small letters
@@ -26,11 +32,15 @@ pub record Layout : Type 0 where
   pub events : List ℕ → List Event
   -- the label of a file
   pub label : List ℕ → List ℕ
-  -- the colour stored in a file for block k, if there is one
-  pub stored : List ℕ → ℕ → Slot
+  -- what a file stores for block k
+  pub stored : List ℕ → ℕ → Stored
 
--- element k of a list, if there is one
-unfoldable pub slotAt : List Color → ℕ → Slot
-slotAt [] k = Empty
-slotAt (c ∷ cs) zero = Thread c
-slotAt (c ∷ cs) (suc k) = slotAt cs k
+-- element k of a list of colours, if there is one
+unfoldable pub shadeAt : List Color → ℕ → Stored
+shadeAt [] k = nothing
+shadeAt (c ∷ cs) zero = shade c
+shadeAt (c ∷ cs) (suc k) = shadeAt cs k
+
+-- entry e of a chart
+unfoldable pub fromChart : List Color → ℕ → Stored
+fromChart chart e = charted e (getD chart e (color 0 0 0))

@@ -9,11 +9,11 @@ use lib.ListN.{length, take, drop, getD, set, replicate}
 use Rattle.rules.specs.Vocabulary.{pick, eqZ, between, any, signed, bitsOf, little, joined, padded}
 use Rattle.rules.specs.Limits.{mostChanges}
 use Rattle.rules.specs.Lists.{opOf, width, height, threadsOf, pecName}
-use Rattle.rules.specs.Charts.{color, pecChart}
+use Rattle.rules.specs.Charts.{pecChart}
 use Rattle.rules.specs.Choices.{sameColor, nearestIndex, pecPalette}
 use Rattle.rules.specs.Records.{Event, events}
 use Rattle.rules.specs.Text.{trimmed}
-use Rattle.rules.specs.Layout.{Layout}
+use Rattle.rules.specs.Layout.{Layout, Stored, nothing, fromChart}
 use Rattle.rules.specs.Thumbnails.{icons}
 use Rattle.rules.specs.declared.Cmd.{Cmd}
 use Rattle.rules.specs.declared.Color.{Color}
@@ -80,9 +80,13 @@ pecEvents start s = events pecFirst (drop (start + 528) s)
 unfoldable pub pecLabel : ℕ → List ℕ → List ℕ
 pecLabel start s = trimmed (take 16 (drop (start + 3) s))
 
--- the entry at 49 + k from the start modulo 65 (0 where the file has ended), for k up to the count byte at 48
-unfoldable pub pecColor : ℕ → List ℕ → ℕ → Slot
-pecColor start s k = pick (leb k (getD s (start + 48) 0)) (Thread (getD pecChart (getD s (start + 49 + k) 0 % 65) (color 0 0 0))) Empty
+-- the entry of block k: the byte at 49 + k from the start (0 where the file has ended) modulo 65
+unfoldable pub pecEntry : ℕ → List ℕ → ℕ → ℕ
+pecEntry start s k = getD s (start + 49 + k) 0 % 65
+
+-- stored for k up to the count byte at 48
+unfoldable pub pecStored : ℕ → List ℕ → ℕ → Stored
+pecStored start s k = pick (leb k (getD s (start + 48) 0)) (fromChart pecChart (pecEntry start s k)) nothing
 
 -- 4: a part without its count byte
 unfoldable pub noCount : ℕ → List ℕ → Bool
@@ -217,5 +221,5 @@ pecLayout = record {
   refusals = λ s. (FileTooShort, noCount 8 s) ∷ [];
   events = pecEvents 8;
   label = pecLabel 8;
-  stored = pecColor 8;
+  stored = pecStored 8;
 }

@@ -15,7 +15,7 @@ use Rattle.rules.specs.Charts.{color}
 use Rattle.rules.specs.Choices.{nearestIndex, pecPalette}
 use Rattle.rules.specs.Text.{wordAt, begins}
 use Rattle.rules.specs.Layout.{Layout}
-use Rattle.rules.specs.Pec.{foundOr, pecPart, pecEvents, pecLabel, pecColor, noCount}
+use Rattle.rules.specs.Pec.{foundOr, pecPart, pecEvents, pecLabel, pecStored, noCount}
 use Rattle.rules.specs.declared.Cmd.{Cmd}
 use Rattle.rules.specs.declared.Color.{Color}
 use Rattle.rules.specs.declared.Op.{Op}
@@ -185,5 +185,5 @@ pesLayout = record {
       ∷ [];
   events = λ s. pecEvents (partAt s) s;
   label = λ s. pecLabel (partAt s) s;
-  stored = λ s. pecColor (partAt s) s;
+  stored = λ s. pecStored (partAt s) s;
 }

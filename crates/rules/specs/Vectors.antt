@@ -14,11 +14,11 @@ use Rattle.rules.specs.Dst.{lineColor, addColor, lineColors, digit, rest
 use Rattle.rules.specs.Exp.{two, control, after80, pairFirst, pairOf, expCmd, expFile}
 use Rattle.rules.specs.Files.{fileOf, eventsOf, labelOf, stored, defaults, colorNumber, orDefault, colourOf, placesOf, runsOf, blocksOf, fileRefusals, noRoom, fileVerdict, readVerdict}
 use Rattle.rules.specs.Text.{wordAt, blank, trimStart, beforeEnd, trimEnd, trimmed, cutBefore, linesOf, begins}
-use Rattle.rules.specs.Layout.{slotAt}
-use Rattle.rules.specs.Jef.{jefRecords, jefCount, jefColor, jefCmd, word, pointsIn, pointCount, jefHoop, halfUp, edges, orOne, jefTable, words, jefHeader, jefFile}
+use Rattle.rules.specs.Layout.{shadeAt, fromChart}
+use Rattle.rules.specs.Jef.{jefRecords, jefCount, jefEntry, jefStored, jefCmd, word, pointsIn, pointCount, jefHoop, halfUp, edges, orOne, jefTable, words, jefHeader, jefFile}
 use Rattle.rules.specs.Lists.{opOf, commands, endsOnce, placed, samePlace, isChange, isTrim, stands, anyFrom, written, lastX, lastY, minZ, maxZ, leastFrom}
 use Rattle.rules.specs.Lists.{greatestFrom, least, greatest, minX, minY, maxX, maxY, width, height, threadsOf, pecName, dstName}
-use Rattle.rules.specs.Pec.{longAxis, axisOf, afterAxis, bothAxes, starts, pecChange, pecFirst, pecEvents, pecLabel, pecColor, noCount, wide, pecValue, pecStart}
+use Rattle.rules.specs.Pec.{longAxis, axisOf, afterAxis, bothAxes, starts, pecChange, pecFirst, pecEvents, pecLabel, pecEntry, pecStored, noCount, wide, pecValue, pecStart}
 use Rattle.rules.specs.Pec.{pecNext, pause, pecCmd, pecStitches, distinct, give, givenTo, foundOr, uniquePalette, pecColors, pecHeader, pecBlock, pecPart, pecFile}
 use Rattle.rules.specs.Pes.{halves, matrixField, threadCode, runLength, runX, runY, pesStart, opens, pesNext, pesPoint, pesOpen, pesCmd, pesSections, sectionCount}
 use Rattle.rules.specs.Pes.{opensSection, colorLog, pesString, shorts, pesBlocks, pesMiddle, pesFile, partAt}
@@ -205,7 +205,7 @@ unfolding pointsAfter startOf places runOf runs blockOf begunAfter blocks pointT
     nearest nearestIndex nearestFirst choices pecPalette jefPalette sameColor entryOf jefNearest jefChoice jefEntries bit weigh dstX dstY under dstRecord dstFirst digit
     rest z27 z9 z3 z1 pair dstBytes dstCmd line signedRight recordCount dstText dstFile two control after80 pairFirst pairOf expCmd expFile fileOf wordAt eventsOf blank
     trimStart beforeEnd trimEnd trimmed cutBefore linesOf begins lastLabel labelOf hexDigit hexPair hexColor sixDigits dropHashes beforeComma lineColor addColor
-    lineColors slotAt pecEvents pecLabel pecColor jefRecords jefCount jefColor stored defaults colorNumber orDefault colourOf placesOf runsOf blocksOf noCount
+    lineColors shadeAt fromChart pecEvents pecLabel pecEntry pecStored jefRecords jefCount jefEntry jefStored stored defaults colorNumber orDefault colourOf placesOf runsOf blocksOf noCount
     fileRefusals noRoom fileVerdict readVerdict jefCmd word pointsIn pointCount jefHoop halfUp edges orOne jefTable words jefHeader jefFile opOf commands endsOnce placed
     samePlace isChange isTrim stands anyFrom written lastX lastY leastStep greatestStep stepIn minZ maxZ leastFrom greatestFrom least greatest minX minY maxX maxY width
     height threadsOf pecName dstName longAxis axisOf afterAxis bothAxes starts pecChange pecFirst wide pecValue pecStart pecNext pause pecCmd pecStitches distinct give

@@ -1,7 +1,7 @@
 -- No colours are stored.
 use mathlib.Core.Path.{refl}
-use Rattle.rules.specs.Files.{eventsOf, colourOf, stored, placesOf, runsOf, blocksOf}
-use Rattle.read_records.specs.Firsts.{firstOf}
+use borrow.Author.Tests.{le-ltb}
+use native.Mathlib.Omega.{arith}
 use Rattle.rules.specs.declared.Format.the-variants.{Exp}
 use Rattle.read_builder.specs.Colour.{colourIn}
 use Rattle.read.proofs.Colours.{answered-as}
@@ -10,12 +10,12 @@ use Rattle.read.proofs.read_exp.Statement.{statement}
 use Rattle.read.proofs.read_exp.Tie as tie
 
 returns : tie.Need-returns
-unfolding placesOf runsOf blocksOf eventsOf firstOf colourOf stored colourIn
-returns c = answered-as Exp (λ k. refl) refl (c .before .before .before .before .before .read-records .ensures)
+unfolding colourIn
+returns c = answered-as Exp (λ k. rw (le-ltb k 0 (omega arith))) refl (c .before .before .before .before .before .read-records .ensures)
 
 pub read-exp-spec : {M : Type 1} → statement M
 read-exp-spec =
     tie.close
     (tie.spec
-    (λ c. search needs) (λ c. search needs) (λ c κs. search needs) (λ c. search needs) (λ c. search needs)
-    (λ c. search needs) returns)
+    (λ c. search needs) (λ c. search needs) (λ c κs. search needs) (λ c. search needs) (λ c. search needs) (λ c. search needs)
+    returns)

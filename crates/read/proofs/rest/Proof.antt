@@ -1,5 +1,5 @@
 -- All that is left.
-use mathlib.Core.Path.{_∙_}
+use mathlib.Core.Path.{ap, _∙_}
 use native.Mathlib.Omega.{arith}
 use denote.Ref.{now}
 use lib.ListN.{length, drop, length-drop}
@@ -12,7 +12,8 @@ returns : tie.Need-returns
 returns c =
     let a = c .before .before .args in
     let s = now (a .file) in
-    c .part .ensures ∙ take-all (length s) (drop (a .from) s) (omega (arith, length-drop (a .from) s))
+    let e = c .part .ensures ∙ take-all (length s) (drop (a .from) s) (omega (arith, length-drop (a .from) s)) in
+    (e, omega (arith, ap length e, length-drop (a .from) s))
 
 pub rest-spec : {M : Type 1} → statement M
 rest-spec = tie.close (tie.spec (λ c κs. search needs) returns)

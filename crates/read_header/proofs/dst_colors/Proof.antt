@@ -1,15 +1,14 @@
 -- The colours of the first 512 bytes. Assumes nothing.
 use Prim.Native.Nat.{ℕ}
-use mathlib.Core.List.{List, map}
-use mathlib.Core.Path.{ap, subst, _≡_}
+use mathlib.Core.List.{List}
+use mathlib.Core.Path.{ap, subst}
 use native.Mathlib.Omega.{arith}
 use denote.Ref.{now}
-use lib.ListN.{length, take, length-take}
-use Rattle.rules.specs.Files.{colorNumber}
+use lib.ListN.{length, length-take}
 use Rattle.rules.specs.Text.{linesOf}
 use Rattle.rules.specs.Dst.{lineColors}
-use Rattle.rules.specs.Layout.{slotAt}
-use Rattle.read_header.specs.Colors.{Stored}
+use Rattle.rules.specs.Layout.{shadeAt}
+use Rattle.read_header.specs.Colors.{Cells}
 use borrow.Author.Needs.{needs}
 use Rattle.read_header.proofs.dst_colors.Statement.{statement}
 use Rattle.read_header.proofs.dst_colors.Tie as tie
@@ -22,13 +21,7 @@ line-colors-requires c κs =
 returns : tie.Need-returns
 returns c =
     let l = c .before .before .line-colors in
-    subst
-    (λ (t : List ℕ).
-    Stored (slotAt (lineColors (linesOf t))) (l .last .1 .0) (l .result)
-    × ((l .result ≡ length (lineColors (linesOf t)))
-    × (take (l .result) (l .last .1 .0) ≡ map colorNumber (lineColors (linesOf t)))))
-    (c .before .before .before .before .part .ensures)
-    (l .ensures)
+    subst (λ (t : List ℕ). Cells (shadeAt (lineColors (linesOf t))) (l .last .1 .0) (l .result)) (c .before .before .before .before .part .ensures) (l .ensures)
 
 pub dst-colors-spec : {M : Type 1} → statement M
 dst-colors-spec = tie.close (tie.spec (λ c κs. search needs) line-colors-requires (λ c. search needs) returns)

@@ -4,7 +4,7 @@ use mathlib.Core.Path.{_≡_, refl, _∙_}
 use native.Mathlib.Omega.{arith}
 use denote.Ref.{now}
 use lib.ListN.{length, getD, length-set}
-use Rattle.rules.specs.Jef.{jefColor}
+use Rattle.rules.specs.Jef.{jefStored}
 use Rattle.read_header.specs.Colors.{Held}
 use Rattle.read_header.proofs.Colors.{held-more, jef-most, jef-held, jef-past, jef-cut}
 use Rattle.read_header.proofs.jef_colors.Statement.{statement}
@@ -14,7 +14,7 @@ abbrev Inv-loop : tie.InvT-loop
 Inv-loop file colors₀ n k₀ colors k =
     (k ≤ n)
     × ((n ≤ 256)
-    × ((length colors ≡ length colors₀) × ((j : ℕ) → j < k → Held (jefColor file j) (getD colors j 0))))
+    × ((length colors ≡ length colors₀) × ((j : ℕ) → j < k → Held (jefStored file j) (getD colors j 0))))
 
 abbrev μ-loop : tie.MeasureT-loop
 μ-loop file colors₀ n k₀ colors k = n - k
@@ -49,9 +49,9 @@ loop-again c =
       (
         omega arith,
         (
-          length-set (h .colors) (h .k) (c .jef-number .result) ∙ h .inv .1 .1 .0,
-          held-more (jefColor f) (h .colors) (h .k) (c .jef-number .result) (omega (arith, start .pre))
-              (jef-held f (h .k) (omega (arith, jef-count .ensures)) (omega arith) (c .jef-number .ensures)) (h .inv .1 .1 .1),
+          length-set (h .colors) (h .k) (c .jef-cell .result) ∙ h .inv .1 .1 .0,
+          held-more (jefStored f) (h .colors) (h .k) (c .jef-cell .result) (omega (arith, start .pre))
+              (jef-held f (h .k) (c .jef-cell .result) (omega (arith, jef-count .ensures)) (omega arith) (c .jef-cell .ensures)) (h .inv .1 .1 .1),
         ),
       ),
     )

@@ -35,7 +35,7 @@ loop-again c =
     let found = take (h .to - h .from) (drop (h .from) (now (a .s))) in
     ⊎-elim
     (λ v. let l = label-here (now (a .s)) found (h .at) e w (h .inv .1 .1 .1) (sym (c .before .is-begun .ensures) ∙ v .0 .taken) in
-    rw (v .1, v .2) (l .0, (w .inside, (omega arith, l .1))))
+    rw (v .1, v .2) (omega (arith, l .0), (w .inside, (omega arith, l .1))))
     (λ v. let l = label-before (now (a .s)) found (h .at) e w (h .inv .1 .1 .1) (sym (c .before .is-begun .ensures) ∙ v .0 .left) in
     rw (v .1, v .2) (h .inv .0, (h .inv .1 .0, (omega arith, l))))
     (c .if1 .came)

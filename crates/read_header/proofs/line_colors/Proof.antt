@@ -43,12 +43,11 @@ loop-again c =
       omega arith,
       (
         omega (arith, put-color .kept .1 .1 .0, h .inv .1 .0),
-        rw (put-color .ensures .0, put-color .ensures .1)
-            (listed-more (lineColors (linesOf s)) (h .colors) (h .n) (h .at) e (omega (arith, h .inv .1 .1 .bytes)) (line-color .result)
+        listed-more (lineColors (linesOf s)) (h .colors) (h .n) (h .at) e (omega (arith, h .inv .1 .1 .bytes)) (line-color .result) (put-color .ensures)
             (colors-more s (h .at) e (line-end .ensures) ∙ ap (λ (c : Slot). addColor c (lineColors (linesFrom (e + 1) s))) (sym q))
             (line-end .ensures .starts)
             (λ t p. omega (arith, color-long l t (sym q ∙ p), length-take (e - h .at) (drop (h .at) s)))
-            (h .inv .1 .1)),
+            (h .inv .1 .1),
       ),
     )
 

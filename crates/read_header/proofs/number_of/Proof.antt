@@ -1,5 +1,6 @@
--- `number_of` meets its contract. Assumes nothing.
+-- Three bytes. Assumes nothing.
 use mathlib.Core.Path.{refl}
+use native.Mathlib.Omega.{arith}
 use Rattle.rules.specs.Files.{colorNumber}
 use borrow.Author.Needs.{needs}
 use Rattle.read_header.proofs.number_of.Statement.{statement}
@@ -7,7 +8,7 @@ use Rattle.read_header.proofs.number_of.Tie as tie
 
 returns : tie.Need-returns
 unfolding colorNumber
-returns c = refl
+returns c = (refl, omega (arith, c .struct-known3 .given, c .before .struct-known2 .given, c .before .before .struct-known .given))
 
 pub number-of-spec : {M : Type 1} → statement M
 number-of-spec =

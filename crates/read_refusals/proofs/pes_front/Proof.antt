@@ -20,34 +20,46 @@ returns c =
 
 returns-2 : tie.Need-returns-2
 returns-2 c =
-    let d = c .before .before in
-    let s = now (d .before .before .before .before .args .file) in
-    pes-short s (sym (d .before .before .begins-pes .ensures) ∙ not-false _ (d .before .if1 .left))
-    (leb-false _ _ (word-missing 8 s (sym (d .i32le .ensures) ∙ c .enum-told .given .1)))
+    let begins-pes = c .before .before .before .before .begins-pes in
+    let if1 = c .before .before .before .if1 in
+    let i32le = c .before .before .i32le in
+    let enum-told = c .enum-told in
+    let s = now (c .before .before .before .before .before .before .args .file) in
+    pes-short s (sym (begins-pes .ensures) ∙ not-false _ (if1 .left))
+    (leb-false _ _ (word-missing 8 s (sym (i32le .ensures) ∙ enum-told .given .1)))
 
 returns-3 : tie.Need-returns-3
 returns-3 c =
-    let d = c .before .before .before .before in
-    let s = now (d .before .before .before .before .args .file) in
-    let h = fit w32 (c .before .before .word .given .0 .0) (c .before .known-told .given .0 .1) in
-    let t = word-there 8 s (sym (d .i32le .ensures) ∙ c .before .before .word .given .1) in
-    pes-below s (sym (d .before .before .begins-pes .ensures) ∙ not-false _ (d .before .if1 .left)) (leb-true _ _ (t .0))
-    (ap (λ (z : ℤ). ltZ z (pos 0)) (t .1 ∙ sym (toZ-ofZ h)) ∙ c .if2 .taken)
+    let start = c .before .before .start in
+    let known-told = c .before .known-told in
+    let i32le = c .before .before .before .before .i32le in
+    let begins-pes = c .before .before .before .before .before .before .begins-pes in
+    let if1 = c .before .before .before .before .before .if1 in
+    let if2 = c .if2 in
+    let s = now (c .before .before .before .before .before .before .before .before .args .file) in
+    let h = fit w32 (start .given .0 .0) (known-told .given .0 .1) in
+    let t = word-there 8 s (sym (i32le .ensures) ∙ start .given .1) in
+    pes-below s (sym (begins-pes .ensures) ∙ not-false _ (if1 .left)) (leb-true _ _ (t .0))
+    (ap (λ (z : ℤ). ltZ z (pos 0)) (t .1 ∙ sym (toZ-ofZ h)) ∙ if2 .taken)
 
 cast-pec-front : tie.Need-cast-pec-front
-cast-pec-front c = let h = fit w32 (c .before .before .word .given .0 .0) (c .before .known-told .given .0 .1) in omega (ints, seen h)
+cast-pec-front c = let h = fit w32 (c .before .before .start .given .0 .0) (c .before .known-told .given .0 .1) in omega (ints, seen h)
 
 returns-4 : tie.Need-returns-4
 returns-4 c =
-    let e = c .before in
-    let d = e .before .before .before .before in
-    let s = now (d .before .before .before .before .args .file) in
-    let h = fit w32 (e .before .before .word .given .0 .0) (e .before .known-told .given .0 .1) in
-    let t = word-there 8 s (sym (d .i32le .ensures) ∙ e .before .before .word .given .1) in
+    let start = c .before .before .before .start in
+    let known-told = c .before .before .known-told in
+    let i32le = c .before .before .before .before .before .i32le in
+    let pec-front = c .pec-front in
+    let begins-pes = c .before .before .before .before .before .before .before .begins-pes in
+    let if1 = c .before .before .before .before .before .before .if1 in
+    let if2 = c .before .if2 in
+    let s = now (c .before .before .before .before .before .before .before .before .before .args .file) in
+    let h = fit w32 (start .given .0 .0) (known-told .given .0 .1) in
+    let t = word-there 8 s (sym (i32le .ensures) ∙ start .given .1) in
     let w = t .1 ∙ sym (toZ-ofZ h) in
-    c .pec-front .ensures ∙ ap (λ (z : ℤ). pecFront (natAbs z) s) (sym w)
-    ∙ pes-start s (sym (d .before .before .begins-pes .ensures) ∙ not-false _ (d .before .if1 .left)) (leb-true _ _ (t .0))
-    (ap (λ (z : ℤ). ltZ z (pos 0)) w ∙ e .if2 .left)
+    pec-front .ensures ∙ ap (λ (z : ℤ). pecFront (natAbs z) s) (sym w)
+    ∙ pes-start s (sym (begins-pes .ensures) ∙ not-false _ (if1 .left)) (leb-true _ _ (t .0)) (ap (λ (z : ℤ). ltZ z (pos 0)) w ∙ if2 .left)
 
 pub pes-front-spec : {M : Type 1} → statement M
 pes-front-spec =
