@@ -9,7 +9,7 @@ use lib.Signed.{nonNeg}
 use Rattle.rules.specs.Dst.{line, signedRight}
 use Rattle.rules.specs.Lists.{dstName}
 use Rattle.rules.specs.Vocabulary.{pick, joined, padded, right}
-use Rattle.laws.specs.Buffers.{Put, put-put, put-as, put-length}
+use Rattle.laws.specs.Buffers.{Put, put-put, put-as}
 use Rattle.laws.specs.Decimals.{length-padded, length-right}
 
 pub put-line : {d d₁ d₂ d₃ text : List ℕ} {at m n r a b : ℕ} → Put d d₁ at m (a ∷ b ∷ 0x3A ∷ []) → Put d₁ d₂ m n text → Put d₂ d₃ n r (0x0D ∷ [])
@@ -37,9 +37,19 @@ pub signed-text : {s n : ℕ} (z : ℤ) → s ≡ pick (nonNeg z) 0x2B 0x2D → 
 unfolding signedRight
 signed-text z e h = rw (e, h)
 
--- the place after a piece, and a buffer that is as long as before
-pub after-put : {d d′ vs : List ℕ} {at r n : ℕ} → length vs ≡ n → Put d d′ at r vs → (r ≡ at + n) × (length d′ ≡ length d)
-after-put e p = (omega (arith, p .ends, e), put-length p)
+-- the place after a piece, as omega reads it of a put
+module _ (d d′ : List ℕ) (at r : ℕ) where
+  pub right-ends : (n v : ℕ) → Put d d′ at r (right n v) → r ≡ at + n
+  right-ends n v p = omega (arith, length-right n v)
+
+  pub name-ends : (name : List ℕ) → Put d d′ at r (padded 16 (dstName name)) → r ≡ at + 16
+  name-ends name p = omega (arith, length-name name)
+
+  pub number-ends : (a b n v : ℕ) → Put d d′ at r (line a b (right n v)) → r ≡ at + (n + 4)
+  number-ends a b n v p = omega (arith, number-line a b n v)
+
+  pub signed-ends : (a b : ℕ) (z : ℤ) → Put d d′ at r (line a b (signedRight z)) → r ≡ at + 10
+  signed-ends a b z p = omega (arith, signed-line a b z)
 
 -- the last of the pieces that are joined
 pub put-only : {d d′ vs : List ℕ} {at r : ℕ} → Put d d′ at r vs → Put d d′ at r (vs ++ [])

@@ -15,6 +15,7 @@ use Rattle.rules.specs.Refusals.{changes}
 use Rattle.rules.specs.declared.Cmd.{Cmd}
 use Rattle.geom.specs.Frames.{boundsOf}
 use Rattle.geom.specs.declared.Bounds.{Bounds}
+use Rattle.laws.specs.Buffers.{Put}
 use Rattle.laws.specs.Listing.{noCmd, commands-at}
 use Rattle.dst.specs.Lines.{trimming, countsText, boundsText, lastText, endText}
 use Rattle.dst.proofs.Lines.{length-line, length-name, number-line, signed-line}
@@ -38,7 +39,20 @@ unfolding joined
 length-last x y =
     simp (length-append, signed-line 0x41 0x58 x, signed-line 0x41 0x59 (negℤ y), signed-line 0x4D 0x58 (pos 0), signed-line 0x4D 0x59 (pos 0))
 
--- no more pass a test than there are
+-- the place after each part, as omega reads it of a put
+module _ (d d′ : List ℕ) (at r : ℕ) where
+  pub label-ends : (name : List ℕ) → Put d d′ at r (line 0x4C 0x41 (padded 16 (dstName name))) → r ≡ at + 20
+  label-ends name p = omega (arith, length-label name)
+
+  pub counts-ends : (n k : ℕ) → Put d d′ at r (countsText n k) → r ≡ at + 18
+  counts-ends n k p = omega (arith, length-counts n k)
+
+  pub bounds-ends : (x x′ y y′ : ℤ) → Put d d′ at r (boundsText x x′ y y′) → r ≡ at + 36
+  bounds-ends x x′ y y′ p = omega (arith, length-bounds x x′ y y′)
+
+  pub last-ends : (x y : ℤ) → Put d d′ at r (lastText x y) → r ≡ at + 40
+  last-ends x y p = omega (arith, length-last x y)
+
 -- ---- the last place
 
 end-x : (c : Cmd) (cs : List Cmd) → lastX (c ∷ cs) ≡ getD (c ∷ cs) (length cs) noCmd .x

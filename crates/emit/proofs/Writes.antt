@@ -1,6 +1,6 @@
 -- What a writer answers, from the checks of its list and the room for its file. Assumes nothing.
 use Prim.Native.Nat.{ℕ, _/_, _%_, _≤_, _<_}
-use mathlib.Core.Path.{_≡_, refl, sym}
+use mathlib.Core.Path.{_≡_, refl, sym, _∙_}
 use mathlib.Core.Bool.{Bool, true, false, not}
 use mathlib.Core.List.{List}
 use native.Mathlib.Omega.{arith}
@@ -18,6 +18,7 @@ use Rattle.rules.specs.declared.Extension.the-variants.{Of}
 use Rattle.rules.specs.declared.Format.{Format}
 use Rattle.rules.specs.declared.Refusal.{Refusal}
 use Rattle.rules.specs.declared.Refusal.the-variants.{BufferTooShort}
+use Rattle.rules.specs.declared.Verdict.{Verdict}
 use Rattle.rules.specs.declared.Verdict.the-variants.{Accepted, Refused}
 use Rattle.rules.specs.declared.WriteAnswer.{WriteAnswer}
 use Rattle.rules.specs.declared.WriteAnswer.the-variants.{Written, Unwritten}
@@ -43,28 +44,29 @@ module _ {file d : List ℕ} {n : ℕ} where
   unfolding roomVerdict verdict writeAnswer filled
   unwritten h e = let v = lt-ltb (length d) (length file) (rw e h) in record { told = rw v; stored = rw v }
 
--- ---- the checks
+-- ---- the checks: v is what they told
 
 no-not : (b : Bool) → not b ≡ false → b ≡ true
 no-not true e = refl
 no-not false e = sym e
 
-module _ {f : Format} {name : List ℕ} {xs ys : List ℤ} {kinds threads d : List ℕ} where
+module _ {f : Format} {name : List ℕ} {xs ys : List ℤ} {kinds threads d : List ℕ} {v : Verdict} where
   -- the list is refused
-  pub not-wrote : {s : Refusal} → listVerdict f xs ys kinds threads ≡ Refused s → Wrote (Of f) name xs ys kinds threads d d (Unwritten s)
+  pub not-wrote : {s : Refusal} → v ≡ listVerdict f xs ys kinds threads → v ≡ Refused s → Wrote (Of f) name xs ys kinds threads d d (Unwritten s)
   unfolding listVerdict writeVerdict writeAnswer filled
-  not-wrote {s} e =
-      let v : writeVerdict (Of f) name xs ys kinds threads (length d) ≡ Refused s = verdict-stop (listRefusals f xs ys kinds threads) _ s e in
-      record { answered = rw v; stored = rw v }
+  not-wrote {s} t e =
+      let w : writeVerdict (Of f) name xs ys kinds threads (length d) ≡ Refused s = verdict-stop (listRefusals f xs ys kinds threads) _ s (sym t ∙ e) in
+      record { answered = rw w; stored = rw w }
 
   -- the list is accepted, and its room decides
-  pub wrote : {d′ : List ℕ} {r : WriteAnswer} → listVerdict f xs ys kinds threads ≡ Accepted
+  pub wrote : {d′ : List ℕ} {r : WriteAnswer} → v ≡ listVerdict f xs ys kinds threads → v ≡ Accepted
       → Answered (fileOf f name (commands xs ys kinds) threads) d d′ r → Wrote (Of f) name xs ys kinds threads d d′ r
   unfolding listVerdict writeVerdict roomVerdict fileTold
-  wrote e a =
-      let file = fileOf f name (commands xs ys kinds) threads in
-      let v : writeVerdict (Of f) name xs ys kinds threads (length d) ≡ roomVerdict file (length d) = verdict-on (listRefusals f xs ys kinds threads) _ e in
-      record { answered = rw v (a .told); stored = rw v (a .stored) }
+  wrote t e a =
+      let rs = listRefusals f xs ys kinds threads in
+      let w : writeVerdict (Of f) name xs ys kinds threads (length d) ≡ roomVerdict (fileOf f name (commands xs ys kinds) threads) (length d)
+      = verdict-on rs _ (sym t ∙ e) in
+      record { answered = rw w (a .told); stored = rw w (a .stored) }
 
 -- ---- what an accepted list is known for
 
@@ -86,11 +88,12 @@ few-commands : (xs ys : List ℤ) (kinds : List ℕ) → badList xs ys kinds ≡
 unfolding badList
 few-commands xs ys kinds t = ltb-false 65535 (length kinds) (or-no-left _ _ (or-no-right (eqb (length kinds) 0) _ t))
 
-pub fine : {f : Format} {xs ys : List ℤ} {kinds threads : List ℕ} → listVerdict f xs ys kinds threads ≡ Accepted → Fine f xs ys kinds threads
+pub fine : {f : Format} {xs ys : List ℤ} {kinds threads : List ℕ} {v : Verdict}
+    → v ≡ listVerdict f xs ys kinds threads → v ≡ Accepted → Fine f xs ys kinds threads
 unfolding listVerdict listRefusals verdict
-fine {f} {xs} {ys} {kinds} {threads} e =
+fine {f} {xs} {ys} {kinds} {threads} t e =
     let cs = commands xs ys kinds in
-    let a = first-false (badList xs ys kinds) _ _ e in
+    let a = first-false (badList xs ys kinds) _ _ (sym t ∙ e) in
     let b = first-false (placeOutside cs) _ _ (a .1) in
     let c = first-false (tooMany cs threads) _ _ (b .1) in
     let d = first-false (moved cs) _ _ (c .1) in

@@ -1,4 +1,4 @@
-// Bytes, numbers and texts into a lent buffer: each function puts its bytes from `at` on and answers the place behind them.
+// Bytes, numbers and texts into a caller-provided buffer: each function puts its bytes from `at` on and answers the place behind them.
 // A port of src/formats/pes.rs and src/formats/dst.rs of zigzag, changed.
 use geom::span;
 ghost use mathlib.Core.Path.{_≡_};

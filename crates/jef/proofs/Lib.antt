@@ -2,4 +2,3 @@ pub mod Words
 pub mod Hoops
 pub mod Parts
 pub mod Files
-pub mod Far

@@ -7,15 +7,17 @@ use denote.Ref.{RefT, now}
 use denote.Triple.Both.{Both}
 use native.Mathlib.Nat.{add-zero, zero-add, add-suc, suc-add}
 use native.Mathlib.Omega.{arith}
-use lib.ListN.{length, take, drop, set, length-append}
-use lib.Seq.{sets, length-sets, sets-eq, take-set-le, drop-set-lt}
+use lib.ListN.{length, drop, set, length-append}
+use lib.Seq.{sets, length-sets, sets-eq}
 
--- d′ is d with vs stored from `at` on, and r is the place after them: what every function that appends ensures
+-- d′ is d with vs stored from `at` on, and r is the place after them: what every function that appends ensures. `same` follows from
+-- `stored`; as a field it is read by `omega` unasked.
 pub record Put {A : Type 0} (d d′ : List A) (at r : ℕ) (vs : List A) : Type 0 where
   pub ends : r ≡ at + length vs
+  pub same : length d′ ≡ length d
   pub stored : d′ ≡ sets d at vs
 
--- the same of a buffer that a call is lent, at entry and at exit
+-- the same of a buffer that a call is passed, at entry and at exit
 abbrev pub Puts : {A : Type 0} → Both (RefT (List A)) (RefT (List A)) → ℕ → ℕ → List A → Type 0
 Puts out at r vs = Put (now (out .entry)) (now (out .exit)) at r vs
 
@@ -33,36 +35,28 @@ module _ {A : Type 0} where
   sets-append d i [] ws = rw add-zero
   sets-append d i (v ∷ vs) ws = rw (sets-append (set d i v) (suc i) vs ws, add-suc, suc-add)
 
-  -- the cells before and after those stored are as they were
-  pub sets-before : (n : ℕ) (d : List A) (i : ℕ) (vs : List A) → n ≤ i → take n (sets d i vs) ≡ take n d
-  sets-before n d i [] h = refl
-  sets-before n d i (v ∷ vs) h = sets-before n (set d i v) (suc i) vs (omega arith) ∙ take-set-le n d i v h
-
-  pub sets-after : (n : ℕ) (d : List A) (i : ℕ) (vs : List A) → i + length vs ≤ n → drop n (sets d i vs) ≡ drop n d
-  sets-after n d i [] h = refl
-  sets-after n d i (v ∷ vs) h = sets-after n (set d i v) (suc i) vs (omega arith) ∙ drop-set-lt n d i v (omega arith)
-
   -- ---- Put
 
+  pub put-by : {d d′ vs : List A} {at r : ℕ} → r ≡ at + length vs → d′ ≡ sets d at vs → Put d d′ at r vs
+  put-by {d} {vs = vs} {at = at} e s = record { ends = e; same = ap length s ∙ length-sets d at vs; stored = s }
+
   pub put-nothing : (d : List A) (at : ℕ) → Put d d at at []
-  put-nothing d at = record { ends = omega arith; stored = refl }
+  put-nothing d at = put-by (omega arith) refl
 
   -- a store at an index
   pub put-one : (d : List A) (at : ℕ) (v : A) → Put d (set d at v) at (at + 1) (v ∷ [])
-  put-one d at v = record { ends = refl; stored = refl }
+  put-one d at v = put-by refl refl
 
   pub put-put : {d d₁ d₂ vs ws : List A} {at m r : ℕ} → Put d d₁ at m vs → Put d₁ d₂ m r ws → Put d d₂ at r (vs ++ ws)
   put-put {d} {vs = vs} {ws = ws} {at = at} p q = record {
     ends = omega (arith, length-append vs ws);
+    same = q .same ∙ p .same;
     stored = q .stored ∙ rw (p .stored, p .ends) (sym (sets-append d at vs ws));
   }
 
   -- the same values by another name
   pub put-as : {d d′ vs ws : List A} {at r : ℕ} → Put d d′ at r vs → vs ≡ ws → Put d d′ at r ws
   put-as p e = rw (← e) p
-
-  pub put-length : {d d′ vs : List A} {at r : ℕ} → Put d d′ at r vs → length d′ ≡ length d
-  put-length {d} {vs = vs} {at = at} p = ap length (p .stored) ∙ length-sets d at vs
 
   -- at the front of a buffer: the values, and then the rest of the buffer as it was
   pub put-front : {d d′ vs : List A} {r : ℕ} → length vs ≤ length d → Put d d′ 0 r vs → (r ≡ length vs) × (d′ ≡ vs ++ drop (length vs) d)
@@ -83,7 +77,7 @@ module _ {A : Type 0} where
     -- what comes next is put
     pub writing-more : {vs ws d′ : List A} {m : ℕ} → Writing d₀ base whole d n coming → coming ≡ vs ++ ws → Put d d′ n m vs → Writing d₀ base whole d′ m ws
     writing-more {vs} {ws} w e p = record {
-      same = put-length p ∙ w .same;
+      same = p .same ∙ w .same;
       rest = rw (p .stored, p .ends, ← sets-append d n vs ws, ← e) (w .rest);
       place = omega (arith, ap length e, length-append vs ws);
       room = w .room;
@@ -94,4 +88,4 @@ module _ {A : Type 0} where
     writing-one {v} w e = writing-more w e (put-one d n v)
 
     pub writing-done : Writing d₀ base whole d n coming → coming ≡ [] → Put d₀ d base n whole
-    writing-done w e = record { ends = omega (arith, ap length e); stored = rw e at (w .rest) }
+    writing-done w e = put-by (omega (arith, ap length e)) (rw e at (w .rest))

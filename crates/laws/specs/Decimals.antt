@@ -1,15 +1,13 @@
 -- Numbers and texts in a header: `right` and `padded`, and a text that is stored one byte after the other. Assumes nothing.
 use Prim.Native.Nat.{ℕ, zero, suc, _+_, _-_, _^_, _≤_, _<_}
 use mathlib.Core.Path.{_≡_, refl, ap}
-use mathlib.Core.Bool.{_&&_}
 use mathlib.Core.List.{List, [], _∷_, _++_}
 use native.Mathlib.Numerals.{add-one}
 use native.Mathlib.Omega.{arith}
-use lib.Dec.{ltb, eqb, eqb→eq}
+use lib.Dec.{eqb, eqb→eq}
 use lib.ListN.{length, getD, drop, replicate, length-append, length-replicate}
 use lib.Seq.{drop-cons}
 use Rattle.rules.specs.Vocabulary.{digitAt, right, padded}
-use Rattle.laws.specs.Tests.{pick-both}
 use Rattle.laws.specs.Tables.{at}
 
 one-less : (k : ℕ) → suc k - 1 ≡ k
@@ -37,17 +35,6 @@ length-right (suc n) v = ap suc (length-right n v)
 pub length-padded : (n : ℕ) (s : List ℕ) → length s ≤ n → length (padded n s) ≡ n
 unfolding padded
 length-padded n s h = simp (length-append, length-replicate) (omega arith)
-
--- every place is a blank or a digit
-pub digit-byte : (k v : ℕ) → digitAt k v < 128
-unfolding digitAt
-digit-byte k v = pick-both (λ (b : ℕ). b < 128) (ltb 0 k && ltb v (10 ^ k)) (omega arith) (omega arith)
-
-pub right-byte : (n v i : ℕ) → getD (right n v) i 0 < 128
-unfolding right
-right-byte zero v i = omega arith
-right-byte (suc n) v zero = digit-byte n v
-right-byte (suc n) v (suc i) = right-byte n v i
 
 -- the powers of ten, as code has them
 abbrev pub powers : List ℕ

@@ -1,4 +1,4 @@
--- Signed numbers as omega can read them. It knows natural numbers, so a signed number is told as a difference of two: `Is v p q` says
+-- Signed numbers as omega can read them. It knows natural numbers, so a signed number is given as a difference of two: `Is v p q` says
 -- that v is p - q,
 -- with one law for each operation, and what is known or wanted of v (equal, fitting, read back) follows from that by one law each, for
 -- every operation.
@@ -12,14 +12,13 @@ use mathlib.Core.Path.{_≡_, refl, sym, ap, _∙_}
 use mathlib.Core.Bool.{Bool, true, false, not, cond}
 use native.Mathlib.Omega.{arith}
 use native.Mathlib.Nat.{mul-le-mul}
-use lib.Pow.{pow-mono}
 use lib.Dec.{T, ltb, leb, eqb, ltb→lt, nltb→le}
 use borrow.Author.Tests.{ltb-true, ltb-false, leb-true, leb-false, lt-ltb, le-ltb, eq-eqb, ne-eqb}
 use lib.IntN.{ℤ, pos, negsuc, negℤ, _+ℤ_, _-ℤ_, _*ℤ_, subℕ, natAbs}
 use lib.Signed.{ltZ, leZ, mag, nonNeg, _≤ℤ_, _<ℤ_}
 use mir.Syntax.{Width}
 use mir.Val.{SFits, Fits, hbits, bits, toZ, ofZ}
-use mir.Facts.{toZ-ofZ, sfits-widen, ltb-yes}
+use mir.Facts.{toZ-ofZ, sfits-widen}
 use Rattle.rules.specs.Vocabulary.{eqZ, between}
 use Rattle.laws.specs.Tests.{is-true, true-is, clash, by-test, and-left, and-right, and-true}
 
@@ -317,22 +316,13 @@ mag-mul (negsuc a) (negsuc b) = omega arith
 pub fits-times : {w : Width} (a b : ℤ) (m n : ℕ) → natAbs a ≤ m → natAbs b ≤ n → m * n < 2 ^ hbits w → SFits w (a *ℤ b)
 fits-times a b m n p q h = record { sfits = omega (arith, mag-mul a b, mul-le-mul p q) }
 
--- a wider type holds what a narrower one does, and twice that
+-- a wider type holds what a narrower one does
 pub read-wider : (w w′ : Width) {z : ℤ} → T (leb (hbits w) (hbits w′)) → SFits w z → toZ w′ (ofZ w′ (toZ w (ofZ w z))) ≡ z
 read-wider w w′ t h = rw (toZ-ofZ h) (toZ-ofZ (sfits-widen t h))
 
-pub twice-room : (w w′ : Width) → T (ltb (hbits w) (hbits w′)) → 2 * 2 ^ hbits w ≤ 2 ^ hbits w′
-twice-room w w′ t = let h : suc (hbits w) ≤ hbits w′ = ltb-yes t in omega (arith, pow-mono h)
-
 -- a test of two numbers that were read is a test of the numbers
-read-test : (f : ℤ → ℤ → Bool) {w : Width} {a b : ℤ} {t : Bool} → SFits w a → SFits w b → f (toZ w (ofZ w a)) (toZ w (ofZ w b)) ≡ t → f a b ≡ t
-read-test f h k e = rw (toZ-ofZ h, toZ-ofZ k) at e
-
-pub lt-is : {w : Width} {a b : ℤ} {t : Bool} → SFits w a → SFits w b → ltZ (toZ w (ofZ w a)) (toZ w (ofZ w b)) ≡ t → ltZ a b ≡ t
-lt-is = read-test ltZ
-
 pub le-is : {w : Width} {a b : ℤ} {t : Bool} → SFits w a → SFits w b → leZ (toZ w (ofZ w a)) (toZ w (ofZ w b)) ≡ t → leZ a b ≡ t
-le-is = read-test leZ
+le-is h k e = rw (toZ-ofZ h, toZ-ofZ k) at e
 
 -- ---- differences
 

@@ -24,7 +24,7 @@ list-more s d i h = rw add-one (drop-cons s i d h)
 pub list-end : {A : Type 0} (s : List A) (i : ℕ) → length s ≤ i → drop i s ≡ []
 list-end s i h = drop-of-length-le s {i = i} h
 
--- A loop that looks for an element that passes. Its invariant: `whole`, what is to be told, is what the elements left tell.
+-- A loop that looks for an element that passes. Its invariant: `whole`, what is to be reported, is what the remaining elements give.
 -- An element that passes, one that does not, and the end:
 module _ {A : Type 0} (p : A → Bool) (s : List A) (d : A) (i : ℕ) {whole : Bool} (w : whole ≡ any p (drop i s)) where
   pub any-hit : i < length s → p (getD s i d) ≡ true → true ≡ whole

@@ -1,9 +1,9 @@
 -- Numbers in bytes, the low byte first: `little` and `fromLittle`. Assumes nothing.
 use Prim.Native.Nat.{ℕ, zero, suc, _+_, _*_, _/_, _%_, _^_, _<_}
-use mathlib.Core.Path.{_≡_, refl, ap, _∙_}
+use mathlib.Core.Path.{_≡_, refl, ap}
 use mathlib.Core.List.{List, [], _∷_, _++_}
 use native.Mathlib.Omega.{arith}
-use native.Mathlib.Nat.{suc-add, zero-add, div-one, div-div-eq-div-mul, mod-eq-of-lt, pow-suc, pow-succ', one-le-pow}
+use native.Mathlib.Nat.{pow-suc, one-le-pow}
 use lib.Arith.{mod-mul}
 use lib.ListN.{length, take, drop, getD}
 use lib.Seq.{take-at, drop-at}
@@ -14,28 +14,12 @@ unfolding little
 length-little zero v = refl
 length-little (suc n) v = ap suc (length-little n (v / 256))
 
--- every byte is one
-pub little-byte : (n v i : ℕ) → getD (little n v) i 0 < 256
-unfolding little
-little-byte zero v i = omega arith
-little-byte (suc n) v zero = omega arith
-little-byte (suc n) v (suc i) = little-byte n (v / 256) i
-
--- the bytes of a number in two parts
-pub little-add : (m n v : ℕ) → little (m + n) v ≡ little m v ++ little n (v / 256 ^ m)
-unfolding little
-little-add zero n v = rw (zero-add n, div-one v)
-little-add (suc m) n v = rw (suc-add m n, little-add m n (v / 256), div-div-eq-div-mul v 256 (256 ^ m), ← pow-succ' 256 m)
-
 -- ---- there and back
 
 pub from-little : (n v : ℕ) → fromLittle (little n v) ≡ v % 256 ^ n
 unfolding little fromLittle
 from-little zero v = omega arith
 from-little (suc n) v = rw (from-little n (v / 256), pow-suc 256 n) (omega (arith, mod-mul v {m = 256 ^ n} {c = 256} (one-le-pow n 256 (omega arith)) (omega arith)))
-
-pub from-little-all : (n v : ℕ) → v < 256 ^ n → fromLittle (little n v) ≡ v
-from-little-all n v h = from-little n v ∙ mod-eq-of-lt h
 
 pub little-from : (bs : List ℕ) → ((i : ℕ) → i < length bs → getD bs i 0 < 256) → little (length bs) (fromLittle bs) ≡ bs
 unfolding little fromLittle

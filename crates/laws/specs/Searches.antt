@@ -1,4 +1,4 @@
--- Laws of tests over a list of any elements, told by index, and of the first and the last place that passes. Assumes nothing.
+-- Laws of tests over a list of any elements, by index, and of the first and the last place that passes. Assumes nothing.
 use Prim.Native.Nat.{ℕ, zero, suc, _<_, suc-le-suc}
 use mathlib.Core.Path.{_≡_, refl}
 use mathlib.Core.Bool.{Bool, true, false}

@@ -5,7 +5,7 @@
 use Prim.Native.Nat.{ℕ, _≤_, _<_}
 use mathlib.Core.Path.{_≡_, refl, sym, subst}
 use mathlib.Core.Bool.{Bool, true, false, _&&_, _||_}
-use borrow.Author.Tests.{lt-ltb, le-ltb, le-leb, lt-leb, eq-eqb, ne-eqb}
+use borrow.Author.Tests.{lt-ltb, le-ltb, le-leb, lt-leb, ne-eqb}
 use lib.Dec.{T, ltb, leb, eqb}
 use Rattle.rules.specs.Vocabulary.{pick}
 
@@ -49,7 +49,7 @@ pub and-no-right : (a b : Bool) → b ≡ false → a && b ≡ false
 and-no-right true b q = q
 and-no-right false b q = refl
 
--- `||` fails where both fail, and passes where either passes
+-- `||` fails just where both fail
 pub or-no-left : (a b : Bool) → a || b ≡ false → a ≡ false
 or-no-left true b e = e
 or-no-left false b e = refl
@@ -60,13 +60,6 @@ or-no-right false b e = e
 
 pub or-false : (a b : Bool) → a ≡ false → b ≡ false → a || b ≡ false
 or-false a b p q = rw (p, q)
-
-pub or-left : (a b : Bool) → a ≡ true → a || b ≡ true
-or-left a b p = rw p
-
-pub or-right : (a b : Bool) → b ≡ true → a || b ≡ true
-or-right true b q = refl
-or-right false b q = q
 
 -- `pick` at a test whose outcome is known, and at a test of two numbers whose order is known
 module _ {ℓ} {X : Type ℓ} where
@@ -81,10 +74,6 @@ module _ {ℓ} {X : Type ℓ} where
   pick-both P true h l = h
   pick-both P false h l = l
 
-  pub pick-same : (b : Bool) (x : X) → pick b x x ≡ x
-  pick-same true x = refl
-  pick-same false x = refl
-
   pub pick-lt : (a b : ℕ) (x y : X) → a < b → pick (ltb a b) x y ≡ x
   pick-lt a b x y h = rw (lt-ltb a b h)
 
@@ -96,9 +85,6 @@ module _ {ℓ} {X : Type ℓ} where
 
   pub pick-gt : (a b : ℕ) (x y : X) → b < a → pick (leb a b) x y ≡ y
   pick-gt a b x y h = rw (lt-leb a b h)
-
-  pub pick-eq : (a b : ℕ) (x y : X) → a ≡ b → pick (eqb a b) x y ≡ x
-  pick-eq a b x y h = rw (eq-eqb a b h)
 
   pub pick-ne : (a b : ℕ) (x y : X) → (a ≡ b → ⊥) → pick (eqb a b) x y ≡ y
   pick-ne a b x y h = rw (ne-eqb a b h)

@@ -21,13 +21,10 @@ length-threads (r ∷ []) = omega arith
 length-threads (r ∷ g ∷ []) = omega arith
 length-threads (r ∷ g ∷ b ∷ s) = omega (arith, length-threads s)
 
--- the bytes of thread i, and the thread
-pub thread-inside : (s : List ℕ) (i : ℕ) → i < length (threadsOf s) → 3 * i + 3 ≤ length s
-thread-inside s i h = omega (arith, length-threads s)
-
 three-more : (i : ℕ) → 3 * suc i ≡ suc (suc (suc (3 * i)))
 three-more i = omega arith
 
+-- thread i, from its three bytes
 pub thread-is : (s : List ℕ) (i : ℕ) → i < length (threadsOf s) → getD (threadsOf s) i (color 0 0 0) ≡ threadAt s (3 * i)
 unfolding threadsOf
 thread-is [] i h = absurd (not-suc-le-zero h)

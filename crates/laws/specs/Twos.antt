@@ -12,7 +12,7 @@ use lib.Dec.{T}
 use lib.Signed.{nonNeg}
 use lib.IntN.{ℤ, pos, negsuc, _+ℤ_, _-ℤ_, natAbs}
 use mir.Syntax.{Width}
-use mir.Val.{SFits, Fits, bits, hbits, toZ, ofZ}
+use mir.Val.{SFits, Fits, hbits, toZ, ofZ}
 use mir.ValLaws.{pow-bits}
 use mir.Facts.{toZ-pos}
 use Rattle.rules.specs.Vocabulary.{signed, bitsOf}
@@ -56,7 +56,7 @@ signed-by P k n l f g = elim (decLt n (2 ^ k)) [
   | no h ↦ let h′ : 2 ^ k ≤ n = omega arith in rw (signed-high k n h′ l) (g h′)
 ]
 
--- a range of k + 1 bits, told of the parts
+-- a range of k + 1 bits, said of the parts
 pub range : (k : ℕ) (z : ℤ) → InBits k z → (up z < 2 ^ k + dn z) × (dn z ≤ 2 ^ k + up z)
 range k z h = let u = up-neg (pos (2 ^ k)) in let d = dn-neg (pos (2 ^ k)) in (omega ints, omega ints)
 

@@ -4,7 +4,7 @@ use mathlib.Core.Path.{_≡_, refl}
 use mathlib.Core.Bool.{Bool, true, false, not, _&&_, _||_}
 use mathlib.Core.List.{List, _++_}
 use lib.Dec.{eqb}
-use borrow.Author.Tests.{eqb-true}
+use borrow.Author.Tests.{eqb-true, not-true, not-false}
 use lib.IntN.{ℤ, pos, negℤ, natAbs, _-ℤ_}
 use lib.ListN.{length, drop, getD}
 use lib.Signed.{mag}
@@ -23,7 +23,6 @@ use Rattle.laws.specs.Ints.{ints, abs-le, between-true}
 use Rattle.laws.specs.Listing.{commands-more}
 use Rattle.pec_cmd.specs.declared.State.{State}
 use Rattle.pec_cmd.specs.States.{stateOf, Step}
-use Rattle.pec_cmd.proofs.Values.{un-not, un-not-not}
 
 -- ---- a step within PEC's limits
 
@@ -63,7 +62,7 @@ stitch kind e = rw e
 
 pub going : (s : State) (kind : ℕ) → (s .jumped ≡ false → s .opening ≡ false) → not (s .jumped) && eqb kind 0 ≡ true → Going (stateOf s) kind
 going s kind o e =
-    let j = un-not (s .jumped) (and-left (not (s .jumped)) (eqb kind 0) e) in
+    let j = not-true (s .jumped) (and-left (not (s .jumped)) (eqb kind 0) e) in
     record { jumped = j; stitch = stitch kind (eqb-true kind 0 (and-right (not (s .jumped)) (eqb kind 0) e)); stays = still s j (o j) }
 
 -- ---- one more command, its places as the list has them
@@ -93,7 +92,7 @@ module _ (xs ys : List ℤ) (ks : List ℕ) (i : ℕ) (x y : ℤ) (l : i < lengt
     neither = rw (commands-more xs ys ks i l) at e
 
     pub plain-step : Step dx dy
-    plain-step = small dx dy (un-not-not _ (or-no-left (not (stepIn Pec dx dy)) later neither))
+    plain-step = small dx dy (not-false _ (or-no-left (not (stepIn Pec dx dy)) later neither))
 
     pub plain-near : later ≡ false
     plain-near = or-no-right (not (stepIn Pec dx dy)) later neither

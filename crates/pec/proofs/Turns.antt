@@ -6,6 +6,7 @@ use mathlib.Core.Path.{_≡_, sym, ap, _∙_}
 use mathlib.Core.Bool.{Bool, true, false, not, _&&_}
 use mathlib.Core.List.{List, [], _++_}
 use native.Mathlib.Omega.{arith}
+use borrow.Author.Tests.{not-true}
 use lib.Dec.{eqb}
 use lib.IntN.{ℤ, pos, natAbs, _-ℤ_}
 use mir.Facts.{toZ-ofZ}
@@ -27,7 +28,6 @@ use Rattle.laws.specs.Listing.{length-commands, commands-more, list-end, cmdAt,
 use Rattle.pec_cmd.specs.declared.State.{State}
 use Rattle.pec_cmd.specs.States.{stateOf, Step}
 use Rattle.pec.specs.Shorts.{Shorts, pairs}
-use Rattle.pec_cmd.proofs.Values.{un-not}
 use Rattle.pec.proofs.Stream.{going, next-opening, still, plain-going, plain-step, plain-near}
 use Rattle.pec.proofs.Runs.{length-pairs, near-from, run-bytes}
 
@@ -157,7 +157,7 @@ pub record Run (xs ys : List ℤ) (ks : List ℕ) (n i : ℕ) (s : State) (last 
 module _ {xs ys : List ℤ} {ks : List ℕ} {n i : ℕ} {s : State} {last : Cmd} (w : Walk xs ys ks n i s last) (wait : ℕ)
     {b : Bool} (e : b ≡ (not (s .jumped) && eqb wait 0)) (g : b ≡ true) where
   pub looks-on : Behind xs ys i s last
-  looks-on = w .opened (un-not (s .jumped) (and-left (not (s .jumped)) (eqb wait 0) (sym e ∙ g)))
+  looks-on = w .opened (not-true (s .jumped) (and-left (not (s .jumped)) (eqb wait 0) (sym e ∙ g)))
 
   pub finds : {j : ℕ} → (i ≤ j) × ((j ≤ length (commands xs ys ks)) × Shorts xs ys ks i j) → Run xs ys ks n i s last wait j
   finds r = record { walk = w; behind = looks-on; waited = and-right (not (s .jumped)) (eqb wait 0) (sym e ∙ g); ahead = r .0; inside = r .1 .0; short = r .1 .1 }

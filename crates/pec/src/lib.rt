@@ -152,6 +152,13 @@ fn step_to(last: Cmd, c: Cmd) -> P
     }
 }
 
+// Where a list begins.
+const ORIGIN: Cmd = Cmd {
+    x: 0,
+    y: 0,
+    kind: 0,
+};
+
 // The bytes that all commands take.
 pub fn pec_len(xs: &[i32], ys: &[i32], kinds: &[u8]) -> usize
     requires { ⌜ (length (now kinds) ≤ 65535) × (stepTooLong Pec (commands (now xs) (now ys) (now kinds)) ≡ false) ⌝ }
@@ -159,11 +166,7 @@ pub fn pec_len(xs: &[i32], ys: &[i32], kinds: &[u8]) -> usize
 {
     let n = list_len(xs, ys, kinds);
     let mut s = start();
-    let mut last = Cmd {
-        x: 0,
-        y: 0,
-        kind: 0,
-    };
+    let mut last = ORIGIN;
     let mut total = 0;
     let mut i = 0;
     let mut wait = 0;
@@ -200,11 +203,7 @@ pub fn pec_encode(xs: &[i32], ys: &[i32], kinds: &[u8], out: &mut [u8], at: usiz
 {
     let n = list_len(xs, ys, kinds);
     let mut s = start();
-    let mut last = Cmd {
-        x: 0,
-        y: 0,
-        kind: 0,
-    };
+    let mut last = ORIGIN;
     let mut to = at;
     let mut i = 0;
     let mut wait = 0;

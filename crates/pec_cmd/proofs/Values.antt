@@ -1,6 +1,6 @@
--- Negated tests, a step of a stitch in one byte or in two, and how many bytes a stitch and a colour change take. Assumes nothing.
+-- A step of a stitch in one byte or in two, and how many bytes a stitch and a colour change take. Assumes nothing.
 use Prim.Native.Nat.{_+_, _≤_}
-use mathlib.Core.Path.{_≡_, refl, sym}
+use mathlib.Core.Path.{_≡_}
 use mathlib.Core.Bool.{Bool, true, false, not, _&&_}
 use mathlib.Core.List.{[], _∷_, _++_}
 use native.Mathlib.Omega.{arith}
@@ -11,15 +11,6 @@ use Rattle.rules.specs.Pec.{wide, pecValue, PecState, pause, pecCmd}
 use Rattle.rules.specs.declared.Op.the-variants.{Stitch, ColorChange}
 use Rattle.laws.specs.Tests.{by-test}
 use Rattle.laws.specs.Ints.{ints, abs-le, between-true}
-
--- a negated test, undone
-pub un-not : (b : Bool) → not b ≡ true → b ≡ false
-un-not true e = sym e
-un-not false e = refl
-
-pub un-not-not : (b : Bool) → not b ≡ false → b ≡ true
-un-not-not true e = refl
-un-not-not false e = sym e
 
 -- what one byte holds
 abbrev pub short : ℤ → Bool

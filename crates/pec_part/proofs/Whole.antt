@@ -10,7 +10,7 @@ use Rattle.rules.specs.Pec.{uniquePalette, pecColors, pecHeader, pecBlock, pecP
 use Rattle.rules.specs.Thumbnails.{icons}
 use Rattle.rules.specs.declared.Cmd.{Cmd}
 use Rattle.rules.specs.declared.Color.{Color}
-use Rattle.laws.specs.Buffers.{Put, put-length}
+use Rattle.laws.specs.Buffers.{Put}
 use Rattle.laws.specs.Lengths.{joined-append, length-name, length-unique, length-colors, length-header, stitchesOf, length-icons, part-length}
 use Rattle.laws.specs.Little.{length-little}
 use Rattle.pec_part.specs.Parts.{labelParts, labelText, sizesParts, sizesText}
@@ -51,11 +51,11 @@ module _ (name : List ℕ) (cs : List Cmd) (ts : List Color) where
 
     module _ {d₁ : List ℕ} {k : ℕ} (p : Put d d₁ at k (pecHeader name ts)) where
       pub room-sizes : k + 16 ≤ length d₁
-      room-sizes = omega (arith, part-length name cs ts few, length-header name ts few, put-length p)
+      room-sizes = omega (arith, part-length name cs ts few, length-header name ts few, p .same)
 
       module _ (n w h : ℕ) {d₂ : List ℕ} {l : ℕ} (q : Put d₁ d₂ k l (sizesText n w h)) where
         pub room-stitches : l + length (stitchesOf cs) ≤ length d₂
-        room-stitches = omega (arith, part-length name cs ts few, length-header name ts few, length-sizes n w h, put-length p, put-length q)
+        room-stitches = omega (arith, part-length name cs ts few, length-header name ts few, length-sizes n w h, p .same, q .same)
 
         pub room-icons : {d₃ : List ℕ} {m : ℕ} → Put d₂ d₃ l m (stitchesOf cs) → m + length (icons cs) ≤ length d₃
-        room-icons r = omega (arith, part-length name cs ts few, length-header name ts few, length-sizes n w h, length-icons cs, put-length p, put-length q, put-length r)
+        room-icons r = omega (arith, part-length name cs ts few, length-header name ts few, length-sizes n w h, length-icons cs, p .same, q .same, r .same)

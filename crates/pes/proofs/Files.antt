@@ -13,7 +13,7 @@ use Rattle.rules.specs.Refusals.{stepsPast, stepTooLong, stepIn, leastStep, gre
 use Rattle.rules.specs.declared.Cmd.{Cmd}
 use Rattle.rules.specs.declared.Color.{Color}
 use Rattle.rules.specs.declared.Format.the-variants.{Pes, Pec}
-use Rattle.laws.specs.Buffers.{Put, put-length}
+use Rattle.laws.specs.Buffers.{Put}
 use Rattle.laws.specs.Lengths.{joined-append, length-shorts, length-sections, length-log, blocks-length, middle-length, pec-length, pes-length}
 use Rattle.laws.specs.Listing.{length-commands}
 use Rattle.laws.specs.Little.{length-little}
@@ -82,7 +82,7 @@ module _ (name : List ℕ) (cs : List Cmd) (ts : List Color) where
 
     module _ (n : ℕ) {d₁ : List ℕ} {k : ℕ} (p : Put d d₁ 0 k (startText n)) where
       pub room-blocks : k + length (pesBlocks cs ts) ≤ length d₁
-      room-blocks = omega (arith, file-long name cs ts, length-start n, put-length p)
+      room-blocks = omega (arith, file-long name cs ts, length-start n, p .same)
 
       pub room-part : {d₂ : List ℕ} {l : ℕ} → Put d₁ d₂ k l (pesBlocks cs ts) → l + length (pecPart name cs ts) ≤ length d₂
-      room-part q = omega (arith, file-long name cs ts, length-start n, put-length p, put-length q)
+      room-part q = omega (arith, file-long name cs ts, length-start n, p .same, q .same)

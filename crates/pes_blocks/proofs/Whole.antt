@@ -15,7 +15,7 @@ use Rattle.rules.specs.Pes.{pesString, shorts, pesStart, pesSections, sectionCo
 use Rattle.rules.specs.Refusals.{placeOutside}
 use Rattle.rules.specs.declared.Cmd.{Cmd}
 use Rattle.rules.specs.declared.Color.{Color}
-use Rattle.laws.specs.Buffers.{Put, put-as, put-put, put-length}
+use Rattle.laws.specs.Buffers.{Put, put-as, put-put}
 use Rattle.laws.specs.Lengths.{length-matrix, length-shorts, blocks-length}
 use Rattle.laws.specs.Little.{length-little}
 use Rattle.laws.specs.Places.{Small, apart, every, small-minX, small-maxY}
@@ -60,15 +60,12 @@ module _ (n : ℕ) (ts : List Color) (cs : List Cmd) where
   length-end = simp (length-append, length-shorts) (omega arith)
 
   module _ (d : List ℕ) (at : ℕ) (room : at + length (endText n ts cs) ≤ length d) where
-    pub room-count : at + 2 ≤ length d
-    room-count = omega (arith, length-end)
-
     module _ {d₁ : List ℕ} {k : ℕ} (p : Put d d₁ at k (little 2 n)) where
       pub room-log : k + length (shorts (log ts cs)) ≤ length d₁
-      room-log = omega (arith, length-end, length-shorts (log ts cs), length-little 2 n, put-length p)
+      room-log = omega (arith, length-end, length-shorts (log ts cs), length-little 2 n, p .same)
 
       pub room-zeros : {d₂ : List ℕ} {m : ℕ} → Put d₁ d₂ k m (shorts (log ts cs)) → m + 4 ≤ length d₂
-      room-zeros q = omega (arith, length-end, length-shorts (log ts cs), length-little 2 n, put-length p, put-length q)
+      room-zeros q = omega (arith, length-end, length-shorts (log ts cs), length-little 2 n, p .same, q .same)
 
 -- ---- the edges, as a call passes them
 
@@ -121,8 +118,8 @@ module _ (cs : List Cmd) (ts : List Color) where
 
     module _ (w h n : ℕ) {d₁ : List ℕ} {k : ℕ} (p : Put d d₁ at k (frameText w h n)) {left bottom : ℤ} (l : left ≡ minX cs) (b : bottom ≡ maxY cs) where
       pub room-sections : k + length (pesSections left bottom ts (pesStart ts) cs) ≤ length d₁
-      room-sections = rw (l, b) (omega (arith, blocks-length cs ts, length-frame w h n, put-length p))
+      room-sections = rw (l, b) (omega (arith, blocks-length cs ts, length-frame w h n, p .same))
 
       pub room-end : {d₂ : List ℕ} {m : ℕ} → Put d₁ d₂ k m (pesSections left bottom ts (pesStart ts) cs) → (j : ℕ) → m + length (endText j ts cs) ≤ length d₂
       room-end q j = let r = rw (l, b) at q in
-          omega (arith, r .ends, blocks-length cs ts, length-frame w h n, length-end j ts cs, put-length p, put-length r)
+          omega (arith, r .ends, blocks-length cs ts, length-frame w h n, length-end j ts cs, p .same, r .same)

@@ -18,10 +18,12 @@ module _ (s : PesState) (left bottom : ℤ) (c : Cmd) (cs : List Cmd) where
   unfolding pesCmd
   stitch-long = simp (length-append, length-point)
 
-  -- whatever the points are
-  pub stitch-room : (points : ℕ) → length (pesCmd left bottom s true Stitch c cs) ≡ length (pesOpen s 0 points) + 4
-  stitch-room points = omega (arith, stitch-long, open-long s 0 points, open-long s 0 (runLength (c .kind) cs))
-
   pub jump-long : length (pesCmd left bottom s true Jump c cs) ≡ length (pesOpen s 1 2) + 8
   unfolding pesCmd joined
   jump-long = simp (length-append, length-point)
+
+-- whatever the points are
+pub stitch-room : (points : ℕ) (s : PesState) (left bottom : ℤ) (c : Cmd) (cs : List Cmd)
+    → length (pesCmd left bottom s true Stitch c cs) ≡ length (pesOpen s 0 points) + 4
+stitch-room points s left bottom c cs =
+    omega (arith, stitch-long s left bottom c cs, open-long s 0 points, open-long s 0 (runLength (c .kind) cs))

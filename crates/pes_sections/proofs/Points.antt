@@ -1,4 +1,4 @@
--- A command of a list is near the edges; places in a row. Assumes nothing.
+-- A command of a list is near the edges; a place as the code has it; places in a row. Assumes nothing.
 use Prim.Native.Nat.{ℕ, zero, suc, _+_, _-_, _*_, _≤_, _<_}
 use mathlib.Core.Path.{_≡_, refl, _∙_}
 use mathlib.Core.List.{List, [], _++_}
@@ -6,11 +6,15 @@ use native.Mathlib.Numerals.{add-one}
 use native.Mathlib.Omega.{arith}
 use lib.IntN.{ℤ, pos}
 use lib.ListN.{length, getD, length-append}
+use mir.Syntax.{w32}
+use mir.Val.{SFits}
+use mir.Facts.{toZ-ofZ}
 use Rattle.rules.specs.Lists.{commands}
 use Rattle.rules.specs.Pes.{pesPoint}
 use Rattle.laws.specs.Lengths.{length-point}
 use Rattle.laws.specs.Listing.{commands-at}
 use Rattle.pes_section_cmd.specs.States.{Near}
+use Rattle.pes_section_cmd.proofs.Distances.{back}
 use Rattle.pes_sections.specs.Alike.{points}
 use Rattle.pes_sections.specs.States.{placed}
 
@@ -18,6 +22,15 @@ use Rattle.pes_sections.specs.States.{placed}
 pub near-at : {left bottom : ℤ} (xs ys : List ℤ) (ks : List ℕ) (i : ℕ) → placed left bottom (commands xs ys ks) → i < length (commands xs ys ks)
     → Near left bottom (getD xs i (pos 0)) (getD ys i (pos 0))
 near-at xs ys ks i p l = rw (commands-at xs ys ks i l) at (p i l)
+
+-- a place as the code has it, through its bits
+pub record Place (left bottom x y : ℤ) : Type 0 where
+  pub near : Near (back left) (back bottom) (back x) (back y)
+  pub same : pesPoint (back left) (back bottom) (back x) (back y) ≡ pesPoint left bottom x y
+
+pub place : {left bottom x y : ℤ} → SFits w32 left → SFits w32 bottom → SFits w32 x → SFits w32 y → Near left bottom x y → Place left bottom x y
+place l b f g n =
+    record { near = rw (toZ-ofZ l, toZ-ofZ b, toZ-ofZ f, toZ-ofZ g) n; same = rw (toZ-ofZ l, toZ-ofZ b, toZ-ofZ f, toZ-ofZ g) }
 
 -- places in a row: how many bytes, one more place, and no more
 module _ (left bottom : ℤ) (xs ys : List ℤ) where

@@ -33,15 +33,11 @@ module _ (k : ℕ) where
       (λ e. absurd (omega (arith, rw e at l)))
 
   -- where the run behind c leaves the needle
-  last-x : (c : Cmd) (cs : List Cmd) → runX k (c .x) cs ≡ getD (c ∷ cs) (runLength k cs) noCmd .x
-  unfolding runLength runX
-  last-x c [] = refl
-  last-x c (d ∷ cs) = by-test (eqb (d .kind) k) (λ e. rw e (last-x d cs)) (λ e. rw e)
-
-  last-y : (c : Cmd) (cs : List Cmd) → runY k (c .y) cs ≡ getD (c ∷ cs) (runLength k cs) noCmd .y
-  unfolding runLength runY
-  last-y c [] = refl
-  last-y c (d ∷ cs) = by-test (eqb (d .kind) k) (λ e. rw e (last-y d cs)) (λ e. rw e)
+  last-place : (c : Cmd) (cs : List Cmd)
+      → (runX k (c .x) cs ≡ getD (c ∷ cs) (runLength k cs) noCmd .x) × (runY k (c .y) cs ≡ getD (c ∷ cs) (runLength k cs) noCmd .y)
+  unfolding runLength runX runY
+  last-place c [] = (refl, refl)
+  last-place c (d ∷ cs) = by-test (eqb (d .kind) k) (λ e. rw e (last-place d cs)) (λ e. rw e (refl, refl))
 
 module _ (xs ys : List ℤ) (ks : List ℕ) (i : ℕ) where
   abbrev cs : List Cmd
@@ -91,16 +87,10 @@ module _ (xs ys : List ℤ) (ks : List ℕ) (i : ℕ) where
     behind : getD (drop i cs) (runLength kind (drop (i + 1) cs)) noCmd ≡ cmdAt xs ys ks (i + runFrom - 1)
     behind = getD-drop i cs _ noCmd ∙ ap (λ (n : ℕ). getD cs n noCmd) (omega (arith, run-more kind l refl)) ∙ commands-at xs ys ks _ run-inside
 
-    pub run-x : runX kind (getD xs i (pos 0)) (drop i cs) ≡ getD xs (i + runFrom - 1) (pos 0)
-    unfolding runX
-    run-x =
-        rw (commands-more xs ys ks i l, eq-eqb kind kind refl) (last-x kind (cmdAt xs ys ks i) (drop (i + 1) cs))
-        ∙ ap (λ (d : List Cmd). getD d (runLength kind (drop (i + 1) cs)) noCmd .x) (sym (commands-more xs ys ks i l))
-        ∙ ap (λ (c : Cmd). c .x) behind
-
-    pub run-y : runY kind (getD ys i (pos 0)) (drop i cs) ≡ getD ys (i + runFrom - 1) (pos 0)
-    unfolding runY
-    run-y =
-        rw (commands-more xs ys ks i l, eq-eqb kind kind refl) (last-y kind (cmdAt xs ys ks i) (drop (i + 1) cs))
-        ∙ ap (λ (d : List Cmd). getD d (runLength kind (drop (i + 1) cs)) noCmd .y) (sym (commands-more xs ys ks i l))
-        ∙ ap (λ (c : Cmd). c .y) behind
+    pub run-place : (runX kind (getD xs i (pos 0)) (drop i cs) ≡ getD xs (i + runFrom - 1) (pos 0))
+        × (runY kind (getD ys i (pos 0)) (drop i cs) ≡ getD ys (i + runFrom - 1) (pos 0))
+    unfolding runX runY
+    run-place =
+        let more = commands-more xs ys ks i l in
+        let last = rw (← more, behind) at (last-place kind (cmdAt xs ys ks i) (drop (i + 1) cs)) in
+        (rw (more, eq-eqb kind kind refl) refl ∙ last .0, rw (more, eq-eqb kind kind refl) refl ∙ last .1)

@@ -1,6 +1,6 @@
 -- The loops over the list: the sections, their count and the colour log by one command more, and at the end. Assumes nothing.
-use Prim.Native.Nat.{ℕ, _+_, _*_, _≤_, _<_}
-use mathlib.Core.Path.{_≡_, refl, sym, ap, _∙_, subst}
+use Prim.Native.Nat.{ℕ, _+_, _*_, _^_, _≤_, _<_}
+use mathlib.Core.Path.{_≡_, refl, sym, ap, _∙_}
 use mathlib.Core.Bool.{Bool, true, false, not, _&&_}
 use mathlib.Core.List.{List, [], _∷_, _++_}
 use native.Mathlib.Omega.{arith}
@@ -8,17 +8,22 @@ use borrow.Author.Tests.{eqb-true, not-false}
 use lib.Dec.{eqb}
 use lib.IntN.{ℤ, pos}
 use lib.ListN.{length, drop, getD, length-append}
+use lib.Signed.{mag}
+use mir.Syntax.{w32}
+use mir.Val.{hbits}
 use Rattle.rules.specs.Vocabulary.{pick, little, joined}
 use Rattle.rules.specs.Lists.{opOf, commands}
-use Rattle.rules.specs.Pes.{PesState, runLength, pesStart, opens, pesNext, pesCmd, pesSections, sectionCount, opensSection, colorLog, shorts}
+use Rattle.rules.specs.Pes.{PesState, runLength, pesStart, opens, pesNext, pesPoint, pesCmd, pesSections, sectionCount, opensSection, colorLog, shorts}
 use Rattle.rules.specs.declared.Cmd.{Cmd}
 use Rattle.rules.specs.declared.Color.{Color}
 use Rattle.rules.specs.declared.Op.{Op}
 use Rattle.rules.specs.declared.Op.the-variants.{Stitch, Jump, Trim, ColorChange, End}
 use Rattle.laws.specs.Tests.{by-test}
-use Rattle.laws.specs.Listing.{Listed, listed, cmdAt, commands-more, list-end}
+use Rattle.laws.specs.Listing.{cmdAt, length-commands, commands-more, list-end}
 use Rattle.laws.specs.Lengths.{length-point}
+use Rattle.laws.specs.Ints.{ret}
 use Rattle.pes_section_cmd.specs.States.{movedTo, openLen, cmdLen, logs}
+use Rattle.pes_section_cmd.proofs.Distances.{back}
 use Rattle.pes_section_cmd.proofs.Lengths.{gap, open-long}
 use Rattle.pes_sections.specs.States.{measures}
 use Rattle.pes_sections.proofs.Lengths.{stitch-long, jump-long}
@@ -42,17 +47,21 @@ cmd-long left bottom s new End c cs = refl
 
 -- ---- what the loops know
 
--- the command at i is in the lists, which are not long
-abbrev pub FewListed : List ℤ → List ℤ → List ℕ → ℕ → Type 0
-FewListed xs ys ks i = (i < 65535) × Listed xs ys ks i
-
-pub few-listed : {xs ys : List ℤ} {ks : List ℕ} {i n : ℕ} → n ≡ length (commands xs ys ks) → i < n → length ks ≤ 65535 → FewListed xs ys ks i
-few-listed {xs} {ys} {ks} e l m = let h = listed {xs = xs} {ys = ys} {ks = ks} e l in (omega (arith, h .kind), h)
-
--- how many threads and sections a list has come to before the command at i
-pub record Within (i : ℕ) (s : PesState) : Type 0 where
+-- a walk over the n commands of the lists has come to the one at i: how many threads and sections that makes
+pub record Walk (xs ys : List ℤ) (ks : List ℕ) (n i : ℕ) (s : PesState) : Type 0 where
+  pub all : n ≡ length (commands xs ys ks)
+  pub across : n ≤ length xs
+  pub down : n ≤ length ys
+  pub kinds : n ≤ length ks
+  pub few : n ≤ 65535
   pub few-threads : s .thread ≤ 1 + i
   pub few-sections : s .sections ≤ i
+
+-- what is said of a state at some place: two of the loops do not move it along a run
+pub record Somewhere (P : PesState → Type 0) (s : PesState) : Type 0 where
+  pub x : ℤ
+  pub y : ℤ
+  pub there : P (movedTo s x y)
 
 -- what is measured before the command at i, and what is left, come to the whole
 pub record Sizing (ts : List Color) (cs : List Cmd) (i : ℕ) (s : PesState) (bytes logged last : ℕ) : Type 0 where
@@ -61,35 +70,41 @@ pub record Sizing (ts : List Color) (cs : List Cmd) (i : ℕ) (s : PesState) (by
   pub log : length (colorLog ts 65 (pesStart ts) cs) ≡ 2 * logged + length (colorLog ts last s (drop i cs))
 
 -- at first
-pub within-start : (ts : List Color) → Within 0 (pesStart ts)
+pub walk-start : {xs ys : List ℤ} {ks : List ℕ} {n : ℕ} (ts : List Color) {s : PesState} → n ≡ length (commands xs ys ks) → length ks ≤ 65535 → s ≡ pesStart ts
+    → Walk xs ys ks n 0 s
 unfolding pesStart
-within-start ts = record { few-threads = omega arith; few-sections = omega arith }
+walk-start {xs} {ys} {ks} ts e l first =
+    let long = length-commands xs ys ks in
+    rw first (record {
+      all = e;
+      across = omega arith;
+      down = omega arith;
+      kinds = omega arith;
+      few = omega arith;
+      few-threads = omega arith;
+      few-sections = omega arith;
+    })
+
+pub somewhere-start : {P : PesState → Type 0} {s : PesState} → P s → Somewhere P s
+somewhere-start {s = s} p = record { x = s .x; y = s .y; there = p }
 
 pub sizing-start : (ts : List Color) (cs : List Cmd) → Sizing ts cs 0 (pesStart ts) 0 0 65
 sizing-start ts cs = record { long = λ left bottom. omega arith; count = refl; log = omega arith }
 
 -- ---- at most one thread and one section more
-next-thread : (ts : List Color) (s : PesState) (new : Bool) (op : Op) (c : Cmd) → pesNext ts s new op c .thread ≤ s .thread + 1
-unfolding pesNext
-next-thread ts s new Stitch c = omega arith
-next-thread ts s new Jump c = omega arith
-next-thread ts s new Trim c = omega arith
-next-thread ts s true ColorChange c = omega arith
-next-thread ts s false ColorChange c = omega arith
-next-thread ts s new End c = omega arith
-
 one-more : (n : ℕ) (b : Bool) → n + pick b 1 0 ≤ n + 1
 one-more n true = omega arith
 one-more n false = omega arith
 
-next-sections : (ts : List Color) (s : PesState) (new : Bool) (op : Op) (c : Cmd) → pesNext ts s new op c .sections ≤ s .sections + 1
+few-more : (ts : List Color) (s : PesState) (new : Bool) (op : Op) (c : Cmd)
+    → (pesNext ts s new op c .thread ≤ s .thread + 1) × (pesNext ts s new op c .sections ≤ s .sections + 1)
 unfolding pesNext
-next-sections ts s new Stitch c = one-more (s .sections) new
-next-sections ts s new Jump c = one-more (s .sections) new
-next-sections ts s new Trim c = omega arith
-next-sections ts s true ColorChange c = omega arith
-next-sections ts s false ColorChange c = omega arith
-next-sections ts s new End c = omega arith
+few-more ts s new Stitch c = (omega arith, one-more (s .sections) new)
+few-more ts s new Jump c = (omega arith, one-more (s .sections) new)
+few-more ts s new Trim c = (omega arith, omega arith)
+few-more ts s true ColorChange c = (omega arith, omega arith)
+few-more ts s false ColorChange c = (omega arith, omega arith)
+few-more ts s new End c = (omega arith, omega arith)
 
 -- ---- one more command, and the end
 
@@ -129,17 +144,22 @@ module _ (xs ys : List ℤ) (ks : List ℕ) (i : ℕ) (s : PesState) where
     abbrev pub stateAfter : PesState
     stateAfter = pesNext ts s newAt (opOf (getD ks i 0)) (cmdAt xs ys ks i)
 
+    abbrev pub bytesAt : ℤ → ℤ → List ℕ
+    bytesAt left bottom = pesCmd left bottom s newAt (opOf (getD ks i 0)) (cmdAt xs ys ks i) (drop i cs)
+
+    abbrev pub bytesAfter : ℤ → ℤ → List ℕ
+    bytesAfter left bottom = pesSections left bottom ts stateAfter (drop (i + 1) cs)
+
     abbrev pub logAfter : ℕ → List ℕ
     logAfter last = colorLog ts (pick (logsAt last) (s .code) last) stateAfter (drop (i + 1) cs)
 
     module _ (l : i < length cs) where
-      pub next-bytes : (left bottom : ℤ) → pesSections left bottom ts s (drop i cs)
-          ≡ pesCmd left bottom s newAt (opOf (getD ks i 0)) (cmdAt xs ys ks i) (drop i cs) ++ pesSections left bottom ts stateAfter (drop (i + 1) cs)
+      pub next-bytes : (left bottom : ℤ) → pesSections left bottom ts s (drop i cs) ≡ bytesAt left bottom ++ bytesAfter left bottom
       unfolding pesSections opens
       next-bytes left bottom = rw (commands-more xs ys ks i l)
 
       next-long : (left bottom : ℤ) → length (pesSections left bottom ts s (drop i cs))
-          ≡ cmdLen (s .sections) newAt (opOf (getD ks i 0)) + length (pesSections left bottom ts stateAfter (drop (i + 1) cs))
+          ≡ cmdLen (s .sections) newAt (opOf (getD ks i 0)) + length (bytesAfter left bottom)
       next-long left bottom = ap length (next-bytes left bottom) ∙ rw (length-append, cmd-long)
 
       next-count : sectionCount ts s (drop i cs) ≡ sectionCount ts stateAfter (drop (i + 1) cs)
@@ -163,12 +183,6 @@ module _ (xs ys : List ℤ) (ks : List ℕ) (i : ℕ) (s : PesState) where
         log = omega (arith, w .log, ap length (next-log last), two-or-none (logsAt last) (s .sections) (s .code) (logAfter last));
       }
 
-    pub within-more : Within i s → Within (i + 1) stateAfter
-    within-more w = record {
-      few-threads = omega (arith, next-thread ts s newAt (opOf (getD ks i 0)) (cmdAt xs ys ks i));
-      few-sections = omega (arith, next-sections ts s newAt (opOf (getD ks i 0)) (cmdAt xs ys ks i));
-    }
-
     -- a stitch of an open section: four bytes, no entry of the log, another place
     module _ (old : newAt ≡ false) (stitch : getD ks i 0 ≡ 0) where
       pub on-op : opOf (getD ks i 0) ≡ Stitch
@@ -181,6 +195,11 @@ module _ (xs ys : List ℤ) (ks : List ℕ) (i : ℕ) (s : PesState) where
           let kept : getD ks i 0 ≡ s .before = eqb-true _ _ (not-false _ old) in
           let none : s .sections + 0 ≡ s .sections = omega arith in
           rw (old, on-op, kept, none)
+
+      -- a stitch of an open section is its point
+      pub on-bytes : (left bottom : ℤ) → bytesAt left bottom ≡ pesPoint left bottom (getD xs i (pos 0)) (getD ys i (pos 0))
+      unfolding pesCmd
+      on-bytes left bottom = rw (old, on-op)
 
       on-long : cmdLen (s .sections) newAt (opOf (getD ks i 0)) ≡ 4
       unfolding cmdLen
@@ -212,18 +231,47 @@ next-moved ts s x y true ColorChange c = refl
 next-moved ts s x y false ColorChange c = refl
 next-moved ts s x y new End c = refl
 
-module _ (xs ys : List ℤ) (ks : List ℕ) (i : ℕ) (s : PesState) (ts : List Color) (x y : ℤ) where
-  abbrev pub elsewhere : PesState
-  elsewhere = stateAfter xs ys ks i (movedTo s x y) ts
+-- the command at i takes the state s to t
+pub record Turn (xs ys : List ℤ) (ks : List ℕ) (i : ℕ) (s : PesState) (ts : List Color) (new : Bool) (t : PesState) : Type 0 where
+  pub is-new : new ≡ newAt xs ys ks i s
+  pub after : t ≡ stateAfter xs ys ks i s ts
 
-  pub after-moved : {t : PesState} → t ≡ stateAfter xs ys ks i s ts → elsewhere ≡ movedTo t (elsewhere .x) (elsewhere .y)
-  after-moved e =
-      subst (λ (t : PesState). elsewhere ≡ movedTo t (elsewhere .x) (elsewhere .y)) (sym e)
-      (next-moved ts s x y (newAt xs ys ks i s) (opOf (getD ks i 0)) (cmdAt xs ys ks i))
+-- as the code has it
+pub turned : {xs ys : List ℤ} {ks : List ℕ} {i : ℕ} {s : PesState} {ts : List Color} {new : Bool} {t : PesState} → new ≡ newAt xs ys ks i s
+    → mag (getD xs i (pos 0)) < 2 ^ hbits w32 → mag (getD ys i (pos 0)) < 2 ^ hbits w32
+    → t ≡ pesNext ts s new (opOf (getD ks i 0)) (record { x = back (getD xs i (pos 0)); y = back (getD ys i (pos 0)); kind = getD ks i 0 })
+    → Turn xs ys ks i s ts new t
+turned {xs} {ys} {i = i} e f g h =
+    record { is-new = e; after = rw (e, ret w32 (getD xs i (pos 0)) f, ret w32 (getD ys i (pos 0)) g) at h }
 
--- further on, with no thread and no section more
-pub within-on : {i j : ℕ} {s : PesState} → Within i s → i ≤ j → (x y : ℤ) → Within j (movedTo s x y)
-within-on w l x y = record { few-threads = omega (arith, w .few-threads); few-sections = omega (arith, w .few-sections) }
+-- further on, with at most one thread and one section more
+module _ {xs ys : List ℤ} {ks : List ℕ} {n i j : ℕ} {s : PesState} (w : Walk xs ys ks n i s) (l : i < j) where
+  walk-to : {t : PesState} → t .thread ≤ s .thread + 1 → t .sections ≤ s .sections + 1 → Walk xs ys ks n j t
+  walk-to h k = record {
+    all = w .all;
+    across = w .across;
+    down = w .down;
+    kinds = w .kinds;
+    few = w .few;
+    few-threads = omega arith;
+    few-sections = omega arith;
+  }
+
+  pub walk-on : (x y : ℤ) → Walk xs ys ks n j (movedTo s x y)
+  walk-on x y = walk-to (omega arith) (omega arith)
+
+module _ {xs ys : List ℤ} {ks : List ℕ} {i : ℕ} {s : PesState} {ts : List Color} {new : Bool} {t : PesState} (e : Turn xs ys ks i s ts new t) where
+  pub walk-more : {n : ℕ} → Walk xs ys ks n i s → Walk xs ys ks n (i + 1) t
+  walk-more w =
+      let few = few-more ts s (newAt xs ys ks i s) (opOf (getD ks i 0)) (cmdAt xs ys ks i) in
+      rw (e .after) (walk-to w (omega arith) (few .0) (few .1))
+
+  pub somewhere-more : {P Q : PesState → Type 0} → ((x y : ℤ) → P (movedTo s x y) → Q (stateAfter xs ys ks i (movedTo s x y) ts))
+      → Somewhere P s → Somewhere Q t
+  somewhere-more f w =
+      let u = f (w .x) (w .y) (w .there) in
+      rw (e .after)
+      (record { x = _; y = _; there = rw (next-moved ts s (w .x) (w .y) (newAt xs ys ks i s) (opOf (getD ks i 0)) (cmdAt xs ys ks i)) at u })
 
 -- no more
 module _ (ts : List Color) (cs : List Cmd) (i : ℕ) (l : length cs ≤ i) where

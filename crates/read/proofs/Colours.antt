@@ -1,6 +1,6 @@
 -- Stored colours as the blocks take them. Assumes nothing.
 use Prim.Native.Nat.{ℕ, zero, suc, _%_, _≤_}
-use mathlib.Core.Path.{_≡_, refl, ap, _∙_}
+use mathlib.Core.Path.{_≡_, refl, sym, ap, _∙_}
 use mathlib.Core.List.{List, [], _∷_}
 use native.Mathlib.Decide.{decLt}
 use native.Mathlib.Omega.{arith}
@@ -51,3 +51,16 @@ stored-colour f cells r s h k = elim (decLt k r) [
 pub answered-as : (f : Format) {c d : ℕ → ℕ} {bytes t : List ℕ} {P P′ : List ℤ} {R R′ B B′ : List ℕ} {r : ReadAnswer} → ((k : ℕ) → c k ≡ d k) → bytes ≡ t
     → RecordsGiven c f bytes P P′ R R′ B B′ r → RecordsGiven d f t P P′ R R′ B B′ r
 answered-as f {c} {d} {bytes} e eb g = rw (← eb, ← blocks-same c d e 0 0 0 (events (firstOf f) bytes)) g
+
+-- a table of 256 cells, the first n of them filled
+module _ {f : ℕ → Stored} {cells : List ℕ} {n : ℕ} (w : Cells f cells n) (e : length cells ≡ 256) where
+  pub cells-inside : n ≤ length cells
+  cells-inside = omega (arith, w .room)
+
+  pub cells-long : n ≡ length (take n cells)
+  cells-long = sym (length-take-le n cells cells-inside)
+
+  -- records that are read by the table are read by what is stored
+  pub stored-answer : (g : Format) {bytes t : List ℕ} {P P′ : List ℤ} {R R′ B B′ : List ℕ} {r : ReadAnswer} → bytes ≡ t
+      → RecordsGiven (colourIn (take n cells)) g bytes P P′ R R′ B B′ r → RecordsGiven (λ k. orDefault (f k) k) g t P P′ R R′ B B′ r
+  stored-answer g = answered-as g (stored-colour f cells n w cells-inside)

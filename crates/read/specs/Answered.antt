@@ -86,7 +86,7 @@ HeadGiven h s P P′ R R′ B B′ r = RecordsGiven (λ k. orDefault (storedBy h
 abbrev pub FileGiven : Format → List ℕ → List ℤ → List ℤ → List ℕ → List ℕ → List ℕ → List ℕ → ReadAnswer → Type 0
 FileGiven f s P P′ R R′ B B′ r = Given (placesOf f s) P P′ (runsOf f s) R R′ (blocksOf f s) B B′ r
 
--- ---- the same of buffers that a call is lent, at entry and at exit
+-- ---- the same of buffers that a call is passed, at entry and at exit
 
 abbrev pub Lent : Type 0 → Type 0
 Lent A = Both (RefT A) (RefT A)

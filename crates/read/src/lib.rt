@@ -1,4 +1,4 @@
-// Reading: a file of any of the five formats, into three lent buffers.
+// Reading: a file of any of the five formats, into three caller-provided buffers.
 // A port of src/formats/read.rs of zigzag, changed.
 use formats::extension_of;
 use read_count::count;
@@ -158,7 +158,7 @@ fn read_jef(
     )
 }
 
-// A file that is not refused, by what its opening told.
+// A file that is not refused, by what its opening gave.
 fn read_part(
     head: Head,
     file: &[u8],

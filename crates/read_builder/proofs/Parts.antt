@@ -75,5 +75,5 @@ pub record Sizes (n m : ℕ) : Type 0 where
 
 pub sizes : (n m : ℕ) → Sizes n m
 unfolding pointsAfter begunAfter
-sizes zero m = record { one = omega arith; two = omega arith; least = omega arith; after = omega arith; begun = omega arith; opens = omega arith }
-sizes (suc n) m = record { one = omega arith; two = omega arith; least = omega arith; after = omega arith; begun = omega arith; opens = omega arith }
+sizes zero m = omega arith
+sizes (suc n) m = omega arith

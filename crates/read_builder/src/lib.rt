@@ -1,5 +1,5 @@
 // Reading: what has been read so far, and the colours of blocks.
-// The builder is one small record that is lent by mutable reference; here is what each record of a file makes of it.
+// The builder is one small record that is passed by mutable reference; here is what each record of a file makes of it.
 // A port of src/formats/read.rs of zigzag, changed.
 pub mod colors;
 
@@ -121,7 +121,7 @@ pub fn after_change(b: Builder, x: i32, y: i32) -> Builder
     }
 }
 
-// The same three on a builder that is lent.
+// The same three on a builder passed by mutable reference.
 impl Builder {
     pub fn stitch(&mut self, x: i32, y: i32)
         requires { ⌜ Small (now self) ⌝ }
@@ -145,7 +145,7 @@ impl Builder {
     }
 }
 
-// The same three for the passes, which keep the builder by value: each lends it to the method and gives it back.
+// The same three for the passes, which keep the builder by value: each passes it to the method by mutable reference and gives it back.
 pub fn stitch(b: Builder, x: i32, y: i32) -> Builder
     requires { ⌜ Small b ⌝ }
     ensures { λ r. ⌜ r ≡ stitched b x y ⌝ }

@@ -1,6 +1,6 @@
 -- A tally goes with the records as a builder does, and at the end its numbers are the counts. Assumes nothing.
-use Prim.Native.Nat.{ℕ, zero, suc, _+_, _-_, _*_, _≤_}
-use mathlib.Core.Path.{_≡_, refl}
+use Prim.Native.Nat.{ℕ, zero, suc, _+_, _-_, _*_, _≤_, _<_}
+use mathlib.Core.Path.{_≡_, refl, sym}
 use mathlib.Core.Bool.{Bool, true, false}
 use mathlib.Core.List.{List}
 use native.Mathlib.Omega.{arith}
@@ -10,39 +10,20 @@ use lib.Dec.{eqb}
 use lib.IntN.{ℤ, pos}
 use lib.ListN.{length, drop}
 use Rattle.rules.specs.Answers.{pointsAfter}
-use Rattle.rules.specs.Dst.{dstFirst}
-use Rattle.rules.specs.Exp.{pairFirst}
-use Rattle.rules.specs.Pec.{pecFirst}
 use Rattle.rules.specs.Vocabulary.{pick}
 use Rattle.rules.specs.declared.Counts.{Counts}
 use Rattle.rules.specs.declared.Format.{Format}
-use Rattle.rules.specs.declared.Format.the-variants.{Pec, Dst}
 use Rattle.rules.specs.declared.Record.{Record}
 use Rattle.rules.specs.declared.Record.the-variants.{StitchBy, JumpBy, ChangeBy, Finish}
 use Rattle.read_records.specs.Firsts.{firstOf}
 use Rattle.read_records.specs.Fields.{lenOf}
 use Rattle.read_builder.proofs.Parts.{may-open, sizes}
-use Rattle.read_builder.specs.Builders.{origin, some, opening, stitched, jumped, changed}
+use Rattle.read_builder.specs.Builders.{origin, some, opening, followed, placeAfter}
 use Rattle.read_builder.specs.declared.Builder.{Builder}
-use Rattle.read_passes.proofs.Loops.{counting-start, counting-again, counting-done, stays}
+use Rattle.read_passes.proofs.Loops.{counting-start, counting-again, counting-done, stays, later}
 use Rattle.read_passes.specs.Told.{Told}
-use Rattle.read_count.specs.Tallies.{noTally, tallied, talliedMany, talliedChange, SmallTally, Like, Tallying, Jumps, none, more, pairFormat}
+use Rattle.read_count.specs.Tallies.{noTally, tallied, talliedMany, talliedChange, SmallTally, Like, Tallying, Jumps, none, more}
 use Rattle.read_count.specs.declared.tally.Tally.{Tally}
-
--- ---- the first record, by format
-
-pub first-pec : (s : List ℕ) → firstOf Pec s ≡ pecFirst s
-unfolding firstOf
-first-pec s = refl
-
-pub first-dst : (s : List ℕ) → firstOf Dst s ≡ dstFirst s
-unfolding firstOf
-first-dst s = refl
-
-pub first-pair : (jef : Bool) (s : List ℕ) → firstOf (pairFormat jef) s ≡ pairFirst jef s
-unfolding firstOf
-first-pair true s = refl
-first-pair false s = refl
 
 -- ---- numbers
 
@@ -69,17 +50,20 @@ bit-le false = omega arith
 
 -- ---- a builder and its tally
 
-module _ {t : Tally} {b : Builder} (l : Like t b) (x y : ℤ) where
-  like-stitch : Like (tallied 1 t) (stitched b x y)
-  like-stitch =
-      let o = may-open (b .run) in
-      omega (arith, l, o .after, o .begun (b .begun), o .adds (b .points), opens-or (b .run), some-after (b .run))
+-- what a record makes of a tally
+abbrev pub talliedBy : Record → Tally → Tally
+talliedBy (StitchBy dx dy n) t = tallied 1 t
+talliedBy (JumpBy dx dy n) t = tallied 0 t
+talliedBy (ChangeBy dx dy n) t = talliedChange t
+talliedBy Finish t = t
 
-  like-jump : Like (tallied 0 t) (jumped b x y)
-  like-jump = omega (arith, l)
-
-  like-change : Like (talliedChange t) (changed b x y)
-  like-change = omega (arith, l, differs (b .begun) (t .runs) (t .first) (l .first))
+like-on : {t : Tally} {b : Builder} → Like t b → (r : Record) (x y : ℤ) → Like (talliedBy r t) (followed b r x y)
+like-on {t} {b} l (StitchBy dx dy n) x y =
+    let o = may-open (b .run) in
+    omega (arith, l, o .after, o .begun (b .begun), o .adds (b .points), opens-or (b .run), some-after (b .run))
+like-on l (JumpBy dx dy n) x y = omega (arith, l)
+like-on {t} {b} l (ChangeBy dx dy n) x y = omega (arith, l, differs (b .begun) (t .runs) (t .first) (l .first))
+like-on l Finish x y = l
 
 -- ---- a tally of the bytes before `at`
 
@@ -87,77 +71,55 @@ module _ {f : Format} {bytes : List ℕ} where
   pub tallying-start : length bytes ≤ 2097152 → Tallying f bytes noTally 0
   tallying-start s = record { builder = origin; counting = counting-start f bytes; like = omega arith; short = s }
 
+  -- another tally of the same builder
+  pub retold : {t t′ : Tally} {at : ℕ} → ((b : Builder) → Like t b → Like t′ b) → Tallying f bytes t at → Tallying f bytes t′ at
+  retold l g = record { builder = g .builder; counting = g .counting; like = l (g .builder) (g .like); short = g .short }
+
   module _ {t : Tally} {at : ℕ} (g : Tallying f bytes t at) where
     pub tallying-small : SmallTally t
     tallying-small = omega (arith, g .counting .bounded, g .counting .within, g .short, g .like, sizes (g .builder .run) 0 .one)
 
-    pub tallying-stitch : {dx dy : ℤ} {n : ℕ} → StitchBy dx dy n ≡ firstOf f (drop at bytes) → Tallying f bytes (tallied 1 t) (at + n)
-    tallying-stitch e = record {
-      builder = stitched (g .builder) (pos 0) (pos 0);
-      counting = counting-again f bytes at e (g .builder) (g .counting) refl refl;
-      like = like-stitch (g .like) (pos 0) (pos 0);
+    -- one record more
+    pub tallying-on : {r : Record} → firstOf f (drop at bytes) ≡ r → Tallying f bytes (talliedBy r t) (placeAfter r at (length bytes))
+    tallying-on {r} e = record {
+      builder = followed (g .builder) r (pos 0) (pos 0);
+      counting = counting-again f bytes at (sym e) (g .builder) (g .counting) refl refl;
+      like = like-on (g .like) r (pos 0) (pos 0);
       short = g .short;
     }
 
-    pub tallying-jump : {dx dy : ℤ} {n : ℕ} → JumpBy dx dy n ≡ firstOf f (drop at bytes) → Tallying f bytes (tallied 0 t) (at + n)
-    tallying-jump e = record {
-      builder = jumped (g .builder) (pos 0) (pos 0);
-      counting = counting-again f bytes at e (g .builder) (g .counting) refl refl;
-      like = like-jump (g .like) (pos 0) (pos 0);
-      short = g .short;
-    }
+    -- it ends in the bytes
+    pub tallying-stays : {r : Record} → firstOf f (drop at bytes) ≡ r → at + lenOf r ≤ length bytes
+    tallying-stays e = stays f bytes at (sym e) (g .counting .within)
 
-    pub tallying-change : {dx dy : ℤ} {n : ℕ} → ChangeBy dx dy n ≡ firstOf f (drop at bytes) → Tallying f bytes (talliedChange t) (at + n)
-    tallying-change e = record {
-      builder = changed (g .builder) (pos 0) (pos 0);
-      counting = counting-again f bytes at e (g .builder) (g .counting) refl refl;
-      like = like-change (g .like) (pos 0) (pos 0);
-      short = g .short;
-    }
-
-    pub tallying-end : Finish ≡ firstOf f (drop at bytes) → Tallying f bytes t (length bytes)
-    tallying-end e = record { builder = g .builder; counting = counting-again f bytes at e (g .builder) (g .counting) refl refl; like = g .like; short = g .short }
-
-    -- a record ends in the bytes
-    pub tallying-stays : {r : Record} → r ≡ firstOf f (drop at bytes) → at + lenOf r ≤ length bytes
-    tallying-stays e = stays f bytes at e (g .counting .within)
+    -- what a pass ensures, over one record and over two stitches
+    pub passed : at < length bytes → {r : Record} → firstOf f (drop at bytes) ≡ r → {t′ : Tally} → t′ ≡ talliedBy r t
+        → {j : ℕ} → j ≡ placeAfter r at (length bytes) → Tallying f bytes t′ j × (at < j)
+    passed l e et ej = rw (et, ej) (tallying-on e, later f bytes at (sym e) l)
 
     -- at the end
     pub change-small : SmallTally (talliedChange t)
-    change-small = omega (arith, tallying-small, g .counting .bounded, g .counting .within, g .short, g .like, bit-le (eqb (t .runs) (t .first)))
+    change-small =
+        omega (arith, tallying-small, g .counting .bounded, g .counting .within, g .short, g .like, bit-le (eqb (t .runs) (t .first)))
 
     pub change-fewer : talliedChange t .blocks ≤ talliedChange t .runs
     change-fewer = omega (arith, g .counting .bounded .fewer, g .like, differs (g .builder .begun) (t .runs) (t .first) (g .like .first))
 
-    pub tallying-done : length bytes ≤ at → {k : Counts} → k .points ≡ t .stitches + t .runs → k .runs ≡ t .runs → k .blocks ≡ talliedChange t .blocks
+    pub tallying-done : length bytes ≤ at → {k : Counts} → k .points ≡ t .stitches + t .runs → k .runs ≡ t .runs
+        → k .blocks ≡ talliedChange t .blocks
         → k .cuts + talliedChange t .blocks ≡ t .runs → Told (firstOf f) bytes k
-    tallying-done h p r bl cu = counting-done f bytes h (g .counting) refl (record {
-      points = omega (arith, g .like);
-      runs = omega (arith, g .like);
-      blocks = omega (arith, g .like, differs (g .builder .begun) (t .runs) (t .first) (g .like .first));
-      cuts = omega (arith, g .like, differs (g .builder .begun) (t .runs) (t .first) (g .like .first));
-    })
+    tallying-done h p r bl cu =
+        let d = differs (g .builder .begun) (t .runs) (t .first) (g .like .first) in
+        counting-done f bytes h (g .counting) (omega (arith, g .like))
 
-  -- several stitches at once
-  module _ {t : Tally} {at : ℕ} (g : Tallying f bytes t at) {dx dy dx₁ dy₁ : ℤ} {n n₁ : ℕ} where
-    pub two-stitches : StitchBy dx dy n ≡ firstOf f (drop at bytes) → StitchBy dx₁ dy₁ n₁ ≡ firstOf f (drop (at + n) bytes)
-        → (j : ℕ) → at + n + n₁ ≡ j → Tallying f bytes (talliedMany 2 t) j
-    two-stitches e e₁ j k =
-        let q = tallying-stitch (tallying-stitch g e) e₁ in
-        rw (← k) (record { builder = q .builder; counting = q .counting; like = omega (arith, q .like); short = q .short })
-
-  module _ {t : Tally} {at : ℕ} (g : Tallying f bytes t at) {dx dy dx₁ dy₁ dx₂ dy₂ dx₃ dy₃ : ℤ} {n : ℕ} where
-    pub four-stitches : StitchBy dx dy n ≡ firstOf f (drop at bytes) → StitchBy dx₁ dy₁ n ≡ firstOf f (drop (at + n) bytes)
-        → StitchBy dx₂ dy₂ n ≡ firstOf f (drop (at + n + n) bytes) → StitchBy dx₃ dy₃ n ≡ firstOf f (drop (at + n + n + n) bytes)
-        → (j : ℕ) → at + n + n + n + n ≡ j → Tallying f bytes (talliedMany 4 t) j
-    four-stitches e e₁ e₂ e₃ j k =
-        let q = tallying-stitch (tallying-stitch (tallying-stitch (tallying-stitch g e) e₁) e₂) e₃ in
-        rw (← k) (record { builder = q .builder; counting = q .counting; like = omega (arith, q .like); short = q .short })
+  pub passed-two : {t : Tally} {at : ℕ} → Tallying f bytes t at → at < length bytes → {dx dy ex ey : ℤ} {n m : ℕ}
+      → firstOf f (drop at bytes) ≡ StitchBy dx dy n
+      → firstOf f (drop (at + n) bytes) ≡ StitchBy ex ey m → {t′ : Tally} → t′ ≡ talliedMany 2 t → {j : ℕ} → j ≡ at + n + m
+      → Tallying f bytes t′ j × (at < j)
+  passed-two {at = at} g l e e₂ et ej =
+      rw (et, ej) (retold (λ b k. omega (arith, k)) (tallying-on (tallying-on g e) e₂), omega (arith, later f bytes at (sym e) l))
 
   -- a jump changes nothing where no run is open
-  jumped-again : {t : Tally} {at : ℕ} → t .running ≡ 0 → Tallying f bytes (tallied 0 t) at → Tallying f bytes t at
-  jumped-again z g = record { builder = g .builder; counting = g .counting; like = omega (arith, g .like); short = g .short }
-
   pub tallying-jumps : {t : Tally} {from at : ℕ} → t .running ≡ 0 → Tallying f bytes t from → Jumps f bytes from at → Tallying f bytes t at
   tallying-jumps z g none = g
-  tallying-jumps z g (more j e) = jumped-again z (tallying-jump (tallying-jumps z g j) e)
+  tallying-jumps z g (more j e) = retold (λ b k. omega (arith, k)) (tallying-on (tallying-jumps z g j) (sym e))

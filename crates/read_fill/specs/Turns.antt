@@ -1,4 +1,4 @@
--- What a turn of a loop over the records of lent bytes makes of the builder and of three lent buffers.
+-- What a turn of a loop over the records of some bytes makes of the builder and of three buffers.
 use Prim.Native.Nat.{ℕ, _+_, _<_}
 use mathlib.Core.Path.{_≡_}
 use mathlib.Core.List.{List}

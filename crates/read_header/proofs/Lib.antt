@@ -1,6 +1,6 @@
 pub mod Texts
-pub mod Lines
 pub mod Words
-pub mod Marks
+pub mod Scans
+pub mod Lines
 pub mod Colors
 pub mod Spans

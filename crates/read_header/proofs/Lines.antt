@@ -1,85 +1,22 @@
 -- Laws on the lines of a text that is read from a place on. Assumes nothing.
-use Prim.Native.Nat.{ℕ, suc, _+_, _-_, _≤_, _<_}
+use Prim.Native.Nat.{ℕ, _+_, _-_, _≤_, _<_}
 use mathlib.Core.Path.{_≡_, refl, sym, ap, _∙_}
-use mathlib.Core.Bool.{Bool, true, false, _&&_, _||_, and-true, and-false}
-use mathlib.Core.List.{List, [], _∷_, _++_, append-assoc, append-nil}
+use mathlib.Core.Bool.{Bool, true, false, _&&_, and-true, and-false}
+use mathlib.Core.List.{List, [], _∷_}
 use native.Mathlib.Omega.{arith}
-use native.Mathlib.Nat.{sub-self}
 use lib.Dec.{eqb}
 use native.Mathlib.Decide.{decLt}
 use lib.ListN.{length, getD, take, drop, length-take, length-drop}
-use lib.Seq.{take-suc, getD-drop, drop-drop}
+use lib.Seq.{drop-drop}
 use Rattle.rules.specs.Vocabulary.{pick, sameBytes}
 use Rattle.rules.specs.Text.{linesOf, cutBefore, begins}
 use Rattle.rules.specs.Dst.{lastLabel}
-use Rattle.laws.specs.Tests.{clash, pick-le, pick-gt}
-use Rattle.laws.specs.Listing.{list-more, list-end}
+use Rattle.laws.specs.Tests.{clash, by-test, pick-le, pick-gt}
 use Rattle.read_header.proofs.Texts.{drop-take}
+use Rattle.read_header.specs.Scans.{stopsAt, until}
+use Rattle.read_header.specs.declared.Stop.the-variants.{LineEnd}
 use Rattle.read_header.specs.Lines.{linesFrom, Line}
-
--- bytes in front of the first line
-abbrev pub openWith : List ℕ → List (List ℕ) → List (List ℕ)
-openWith xs [] = xs ∷ []
-openWith xs (l ∷ ls) = (xs ++ l) ∷ ls
-
-abbrev ends : ℕ → Bool
-ends b = eqb b 0x0D || eqb b 0x0A
-
-open-one : (b : ℕ) (ls : List (List ℕ)) → cutBefore false b ls ≡ openWith (b ∷ []) ls
-unfolding cutBefore
-open-one b [] = refl
-open-one b (l ∷ ls) = refl
-
-open-open : (xs ys : List ℕ) (ls : List (List ℕ)) → openWith xs (openWith ys ls) ≡ openWith (xs ++ ys) ls
-open-open xs ys [] = refl
-open-open xs ys (l ∷ ls) = ap (λ (t : List ℕ). t ∷ ls) (sym (append-assoc xs ys l))
-
-open-nil : (s : List ℕ) → openWith [] (linesOf s) ≡ linesOf s
-unfolding linesOf cutBefore
-open-nil [] = refl
-open-nil (b ∷ s) = cut (ends b) (linesOf s)
-  where
-    cut : (x : Bool) (ls : List (List ℕ)) → openWith [] (cutBefore x b ls) ≡ cutBefore x b ls
-    cut true ls = refl
-    cut false [] = refl
-    cut false (l ∷ ls) = refl
-
--- the bytes from at to e belong to the open line
-abbrev pub Open : List ℕ → ℕ → ℕ → Type 0
-Open s at e = linesOf (drop at s) ≡ openWith (take (e - at) (drop at s)) (linesOf (drop e s))
-
-pub open-start : (s : List ℕ) (at e : ℕ) → e ≡ at → Open s at e
-open-start s at e p = rw (p, sub-self at) (sym (open-nil (drop at s)))
-
--- a byte at e that ends no line
-pub open-more : (s : List ℕ) (at e : ℕ) → at ≤ e → e < length s → ends (getD s e 0) ≡ false → Open s at e → Open s at (e + 1)
-unfolding linesOf
-open-more s at e a h n o =
-    o ∙ rw (list-more s 0 e h, n, open-one, open-open) (ap (λ (t : List ℕ). openWith t (linesOf (drop (e + 1) s))) (sym more))
-  where
-    more : take (e + 1 - at) (drop at s) ≡ take (e - at) (drop at s) ++ (getD s e 0 ∷ [])
-    more =
-        let p : e + 1 - at ≡ suc (e - at) = omega arith in
-        let q : at + (e - at) ≡ e = omega arith in
-        ap (λ (n : ℕ). take n (drop at s)) p ∙ take-suc (drop at s) (e - at) 0 (omega (arith, length-drop at s))
-        ∙ ap (λ (b : ℕ). take (e - at) (drop at s) ++ (b ∷ [])) (getD-drop at s (e - at) 0 ∙ ap (λ (i : ℕ). getD s i 0) q)
-
--- the line ends before e
-pub line-cut : (s : List ℕ) (at e : ℕ) → at ≤ e → e < length s → ends (getD s e 0) ≡ true → Open s at e → Line s at e
-unfolding linesOf cutBefore linesFrom
-line-cut s at e a h n o = record {
-  starts = a;
-  inside = omega arith;
-  lines = pick-le at (length s) _ _ (omega arith) ∙ o ∙ rw (list-more s 0 e h, n, append-nil, pick-le (e + 1) (length s) (linesOf (drop (e + 1) s)) [] (omega arith));
-}
-
-pub line-last : (s : List ℕ) (at e : ℕ) → at ≤ e → e ≤ length s → length s ≤ e → Open s at e → Line s at e
-unfolding linesOf linesFrom
-line-last s at e a h n o = record {
-  starts = a;
-  inside = h;
-  lines = pick-le at (length s) _ _ (omega arith) ∙ o ∙ rw (list-end s e n, append-nil, pick-gt (e + 1) (length s) (linesOf (drop (e + 1) s)) [] (omega arith));
-}
+use Rattle.read_header.proofs.Scans.{until-inside}
 
 pub lines-all : (s : List ℕ) → linesFrom 0 s ≡ linesOf s
 unfolding linesFrom
@@ -88,6 +25,37 @@ lines-all s = pick-le 0 (length s) _ _ (omega arith)
 pub lines-none : (s : List ℕ) (at : ℕ) → length s < at → linesFrom at s ≡ []
 unfolding linesFrom
 lines-none s at h = pick-gt at (length s) _ _ h
+
+-- the lines from a place on, of a text and of what is left of it
+lines-left : (s : List ℕ) (at k : ℕ) {m : ℕ} → at ≤ length s → m ≡ at + k → linesFrom k (drop at s) ≡ linesFrom m s
+unfolding linesFrom
+lines-left s at k h e = rw e (let l = length-drop at s in elim (decLt (length s) (at + k)) [
+  | yes g ↦ pick-gt k (length (drop at s)) _ _ (omega arith) ∙ sym (pick-gt (at + k) (length s) _ _ g)
+  | no g ↦ pick-le k (length (drop at s)) _ _ (omega arith) ∙ ap linesOf (drop-drop k at s)
+      ∙ sym (pick-le (at + k) (length s) _ _ (omega arith))
+])
+
+-- the first line ends where a scan for a line's end stops
+line-first : (s : List ℕ) → linesOf s ≡ take (until (stopsAt LineEnd) s) s ∷ linesFrom (until (stopsAt LineEnd) s + 1) s
+unfolding linesOf cutBefore until
+line-first [] = rw (lines-none [] 1 (omega arith))
+line-first (b ∷ s) = by-test (stopsAt LineEnd b)
+    (λ e. rw (e, ← lines-left (b ∷ s) 1 0 {m = 1} (omega arith) refl, lines-all s))
+    (λ e. rw (e, line-first s) (ap (_∷_ (b ∷ take (until (stopsAt LineEnd) s) s))
+    (lines-left (b ∷ s) 1 (until (stopsAt LineEnd) s + 1) (omega arith) (omega arith))))
+
+pub line-at : (s : List ℕ) (at : ℕ) {e : ℕ} → at ≤ length s → e ≡ at + until (stopsAt LineEnd) (drop at s) → Line s at e
+unfolding linesFrom
+line-at s at {e} h p =
+    let n = until-inside (stopsAt LineEnd) (drop at s) in
+    let l = length-drop at s in
+    let q : e - at ≡ until (stopsAt LineEnd) (drop at s) = omega arith in
+    record {
+      starts = omega arith;
+      inside = omega arith;
+      lines = pick-le at (length s) _ _ h ∙ line-first (drop at s)
+          ∙ rw (q, lines-left s at (until (stopsAt LineEnd) (drop at s) + 1) {m = e + 1} h (omega arith));
+    }
 
 -- ---- a line that begins with three bytes
 

@@ -6,8 +6,7 @@ use mathlib.Core.List.{List, [], _∷_, _++_}
 use native.Mathlib.Omega.{arith}
 use lib.ListN.{length, getD, take, drop, length-drop}
 use lib.Seq.{take-suc, take-all, take-nil}
-use Rattle.rules.specs.Text.{blank, trimStart, trimEnd, beforeEnd}
-use Rattle.laws.specs.Listing.{list-more, list-end}
+use Rattle.rules.specs.Text.{blank, trimEnd, beforeEnd}
 
 -- a part of a part
 pub drop-take : (m n : ℕ) (s : List ℕ) → drop m (take (m + n) s) ≡ take n (drop m s)
@@ -18,20 +17,6 @@ drop-take (suc m) n (b ∷ s) = let p : suc m + n ≡ suc (m + n) = omega arith 
 -- a part that runs past the end
 pub take-rest : (n from : ℕ) (s : List ℕ) → length s - from ≤ n → take n (drop from s) ≡ drop from s
 take-rest n from s h = take-all n (drop from s) (omega (arith, length-drop from s))
-
--- ---- the start
-
-pub start-more : (s : List ℕ) (i : ℕ) → i < length s → blank (getD s i 0) ≡ true → trimStart (drop i s) ≡ trimStart (drop (i + 1) s)
-unfolding trimStart
-start-more s i h e = rw (list-more s 0 i h, e)
-
-pub start-here : (s : List ℕ) (i : ℕ) → i < length s → blank (getD s i 0) ≡ false → trimStart (drop i s) ≡ drop i s
-unfolding trimStart
-start-here s i h e = rw (list-more s 0 i h, e)
-
-pub start-end : (s : List ℕ) (i : ℕ) → length s ≤ i → trimStart (drop i s) ≡ drop i s
-unfolding trimStart
-start-end s i h = rw (list-end s i h)
 
 -- ---- the end
 

@@ -1,4 +1,5 @@
 pub mod Words
+pub mod Scans
 pub mod Lines
 pub mod Colors
 pub mod Spans

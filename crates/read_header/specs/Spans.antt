@@ -1,4 +1,4 @@
--- A part of a slice, told by its place.
+-- A part of a slice, given by its place.
 use Prim.Native.Nat.{ℕ, _+_, _≤_}
 use mathlib.Core.Path.{_≡_}
 use mathlib.Core.List.{List}

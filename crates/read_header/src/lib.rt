@@ -12,7 +12,7 @@ ghost use lib.IntN.{natAbs};
 ghost use lib.ListN.{length, take, drop, getD};
 ghost use Rattle.rules.specs.Vocabulary.{signed};
 ghost use Rattle.rules.specs.Files.{colorNumber};
-ghost use Rattle.rules.specs.Text.{blank, trimStart, trimEnd, trimmed, linesOf, begins, wordAt};
+ghost use Rattle.rules.specs.Text.{blank, trimStart, trimEnd, trimmed, linesOf, begins};
 ghost use Rattle.rules.specs.Dst.{lastLabel, hexDigit, hexPair, hexColor, sixDigits, dropHashes, beforeComma, lineColor, lineColors};
 ghost use Rattle.rules.specs.Layout.{shadeAt, charted, fromChart};
 ghost use Rattle.rules.specs.Pec.{pecEntry, pecStored};
@@ -20,6 +20,7 @@ ghost use Rattle.rules.specs.Jef.{jefCount, jefEntry, jefStored};
 ghost use Rattle.rules.specs.Charts.{pecChart, jefChart};
 ghost use Rattle.rules.specs.Promises.{was, left};
 ghost use Rattle.read_header.specs.Words.{wordOf};
+ghost use Rattle.read_header.specs.Scans.{stopsAt, until};
 ghost use Rattle.read_header.specs.Lines.{Line};
 ghost use Rattle.read_header.specs.Spans.{Holds};
 ghost use Rattle.read_header.specs.Colors.{Held, Cells, Added};
@@ -78,18 +79,45 @@ fn is_blank(b: u8) -> bool
     b == 0x20
 }
 
-// Where the blanks at the start end.
-fn start_of(s: &[u8]) -> usize
-    ensures { λ r. ⌜ (r ≤ length (was s)) × (drop r (was s) ≡ trimStart (was s)) ⌝ }
+// What a scan stops at.
+enum Stop {
+    Text,
+    LineEnd,
+    Comma,
+    PastHashes,
+}
+
+fn stops(k: Stop, b: u8) -> bool
+    ensures { λ r. ⌜ r ≡ stopsAt k b ⌝ }
 {
-    let mut i = 0;
+    match k {
+        Stop::Text => !is_blank(b),
+        Stop::LineEnd => b == 0x0D || b == 0x0A,
+        Stop::Comma => b == 0x2C,
+        Stop::PastHashes => b != 0x23,
+    }
+}
+
+// The first place from `at` on at which a scan stops, or the end.
+fn scan(s: &[u8], at: usize, k: Stop) -> usize
+    requires { ⌜ at ≤ length (now s) ⌝ }
+    ensures { λ r. ⌜ r ≡ at + until (stopsAt k) (drop at (was s)) ⌝ }
+{
+    let mut i = at;
     while i < s.len() {
-        if !is_blank(s[i]) {
+        if stops(k, s[i]) {
             return i;
         }
         i += 1;
     }
     i
+}
+
+// Where the blanks at the start end.
+fn start_of(s: &[u8]) -> usize
+    ensures { λ r. ⌜ (r ≤ length (was s)) × (drop r (was s) ≡ trimStart (was s)) ⌝ }
+{
+    scan(s, 0, Stop::Text)
 }
 
 // Where the blanks at the end begin.
@@ -189,17 +217,7 @@ fn line_end(s: &[u8], at: usize) -> usize
     requires { ⌜ at ≤ length (now s) ⌝ }
     ensures { λ r. ⌜ Line (was s) at r ⌝ }
 {
-    let mut e = at;
-    while e < s.len() {
-        if s[e] == 0x0D {
-            return e;
-        }
-        if s[e] == 0x0A {
-            return e;
-        }
-        e += 1;
-    }
-    e
+    scan(s, at, Stop::LineEnd)
 }
 
 // Where the rest of the last line that begins `LA:` stands.
@@ -315,28 +333,14 @@ pub fn six_digits(s: &[u8]) -> Slot
 fn comma_of(s: &[u8]) -> usize
     ensures { λ r. ⌜ (r ≤ length (was s)) × (take r (was s) ≡ beforeComma (was s)) ⌝ }
 {
-    let mut i = 0;
-    while i < s.len() {
-        if s[i] == 0x2C {
-            return i;
-        }
-        i += 1;
-    }
-    i
+    scan(s, 0, Stop::Comma)
 }
 
 // Where the `#` at the start end.
 fn hashes_of(s: &[u8]) -> usize
     ensures { λ r. ⌜ (r ≤ length (was s)) × (drop r (was s) ≡ dropHashes (was s)) ⌝ }
 {
-    let mut i = 0;
-    while i < s.len() {
-        if s[i] != 0x23 {
-            return i;
-        }
-        i += 1;
-    }
-    i
+    scan(s, 0, Stop::PastHashes)
 }
 
 // The colour of a text that may go on after a comma.

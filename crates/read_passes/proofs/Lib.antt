@@ -2,3 +2,4 @@
 pub mod Turns
 pub mod Loops
 pub mod Bounds
+pub mod Found

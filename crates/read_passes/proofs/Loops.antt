@@ -1,7 +1,7 @@
 -- The two passes over the records of any format: what holds where they begin, in each turn and at the end. Assumes nothing.
-use Prim.Native.Nat.{ℕ, suc, _+_, _-_, _*_, _≤_, _<_}
+use Prim.Native.Nat.{ℕ, _+_, _-_, _*_, _≤_, _<_}
 use mathlib.Core.Path.{_≡_, refl, sym, ap, _∙_}
-use mathlib.Core.List.{List, [], _++_, append-nil, append-assoc}
+use mathlib.Core.List.{List, [], _++_, append-nil}
 use native.Mathlib.Nat.{zero-add}
 use native.Mathlib.Omega.{arith}
 use lib.IntN.{ℤ, pos, natAbs, _+ℤ_}
@@ -17,7 +17,7 @@ use Rattle.rules.specs.declared.Format.{Format}
 use Rattle.rules.specs.declared.Record.{Record}
 use Rattle.rules.specs.declared.Record.the-variants.{StitchBy, JumpBy, ChangeBy, Finish}
 use Rattle.rules.specs.declared.Verdict.the-variants.{Accepted}
-use Rattle.laws.specs.Buffers.{sets-append, Writing, writing-start, writing-room, writing-more, writing-done, put-front}
+use Rattle.laws.specs.Buffers.{Writing, put-by, writing-start, writing-room, writing-more, writing-done, put-front}
 use Rattle.laws.specs.Ints.{abs-add}
 use Rattle.laws.specs.Reading.{events-step, read-finish}
 use Rattle.read_records.proofs.Formats.{Near, near, inside}
@@ -50,7 +50,7 @@ module _ (f : Format) (bytes : List ℕ) where
   pub counting-start : Counting f bytes origin 0
   counting-start = record { places = zero-add _; runs = zero-add _; blocks = λ c. zero-add _; bounded = omega arith; within = omega arith }
 
-  pub filling-start : {c : ℕ → ℕ} (P : List ℤ) (R B : List ℕ) → Fits c (firstOf f) bytes (length P) (length R) (length B) → Filling c P R B P R B origin 0
+  filling-start : {c : ℕ → ℕ} (P : List ℤ) (R B : List ℕ) → Fits c (firstOf f) bytes (length P) (length R) (length B) → Filling c P R B P R B origin 0
   filling-start {c} P R B fit = record {
     places = writing-start P 0 (placesIn (firstOf f) bytes) (omega (arith, fit .places));
     runs = writing-start R 0 (runsIn (firstOf f) bytes) (omega (arith, fit .runs));
@@ -67,16 +67,13 @@ module _ (f : Format) (bytes : List ℕ) where
   no-record (ChangeBy dx dy n) h = absurd (omega (arith, h .fair, h .len))
   no-record Finish h = refl
 
-  pub ended : (at : ℕ) → length bytes ≤ at → coming at ≡ []
+  ended : (at : ℕ) → length bytes ≤ at → coming at ≡ []
   ended at h =
       let z : length (drop at bytes) ≡ 0 = length-drop at bytes ∙ omega arith in
       read-finish (firstOf f) (inside f) (drop at bytes) (no-record (firstOf f (drop at bytes)) (rw z at (near f (drop at bytes))))
 
   pub small : {b : Builder} {at : ℕ} → Bounded b at → at ≤ length bytes → length bytes ≤ 2097152 → Small b
   small w i s = omega (arith, w)
-
-  pub fewer-blocks : {b q : Builder} {at : ℕ} → Bounded b at → q ≡ finished b → q .blocks ≤ q .runs
-  fewer-blocks w e = rw e (w .fewer)
 
   -- ---- one turn: r is the record at `at`
 
@@ -134,30 +131,18 @@ module _ (f : Format) (bytes : List ℕ) where
       to-blocks c x y = ap (blocksLeft c b) now-then ∙ blocks-next b c r x y (λ n. coming (at + n)) ∙ rw (behind r)
 
       module _ {c : ℕ → ℕ} {P₀ : List ℤ} {R₀ B₀ : List ℕ} {P : List ℤ} {R B : List ℕ} (g : Filling c P₀ R₀ B₀ P R B b at) where
-        pub holds : Holds c b r (length P) (length R) (length B)
-        holds = record {
-          places = writing-room (placesBy b r) _ (g .places) to-places;
-          runs = writing-room (runsBy b r) _ (g .runs) (to-runs (b .x) (b .y));
-          blocks = writing-room (blocksBy c b r) _ (g .blocks) (to-blocks c (b .x) (b .y));
-        }
-
         filling-next : Filling c P₀ R₀ B₀ (sets P (2 * b .points) (placesBy b r)) (sets R (b .runs) (runsBy b r)) (sets B (blockCells * b .blocks) (blocksBy c b r))
             (moved b r) (placeAfter r at (length bytes))
         filling-next =
             let x = b .x +ℤ dxOf r in
             let y = b .y +ℤ dyOf r in
             record {
-              places = writing-more {vs = placesBy b r} (g .places) to-places (record { ends = points-by b r x y; stored = refl });
-              runs = writing-more {vs = runsBy b r} (g .runs) (to-runs x y) (record { ends = runs-by b r x y; stored = refl });
-              blocks = writing-more {vs = blocksBy c b r} (g .blocks) (to-blocks c x y) (record { ends = blocks-by b c r x y; stored = refl });
+              places = writing-more {vs = placesBy b r} (g .places) to-places (put-by (points-by b r x y) refl);
+              runs = writing-more {vs = runsBy b r} (g .runs) (to-runs x y) (put-by (runs-by b r x y) refl);
+              blocks = writing-more {vs = blocksBy c b r} (g .blocks) (to-blocks c x y) (put-by (blocks-by b c r x y) refl);
               bounded = moved-bounded (g .bounded) (g .within);
               within = next-within r (stays (g .within));
             }
-
-        -- by what the calls gave
-        pub filling-again : {q : Builder} {P′ : List ℤ} {R′ B′ : List ℕ} {n : ℕ} → q ≡ moved b r → P′ ≡ sets P (2 * b .points) (placesBy b r)
-            → R′ ≡ sets R (b .runs) (runsBy b r) → B′ ≡ sets B (blockCells * b .blocks) (blocksBy c b r) → n ≡ placeAfter r at (length bytes) → Filling c P₀ R₀ B₀ P′ R′ B′ q n
-        filling-again eq eP eR eB en = rw (eq, eP, eR, eB, en) filling-next
 
       -- counting stays at (0, 0)
       module _ (g : Counting f bytes b at) where
@@ -268,81 +253,78 @@ module _ (f : Format) (bytes : List ℕ) where
 
   -- ---- at the end
 
-  module _ {b : Builder} {at : ℕ} (h : length bytes ≤ at) where
-    counting-end : {k : Counts} → Counting f bytes b at → Counted (finished b) k → Told (firstOf f) bytes k
-    unfolding places runs blocks
-    counting-end g q =
-        let gp = rw (ended at h) at (g .places) in
-        let gr = rw (ended at h) at (g .runs) in
-        record {
-          points = omega (arith, gp, q);
-          runs = omega (arith, gr, q, run-cells (b .run));
-          blocks = λ c. omega (arith, rw (ended at h) at (g .blocks c), q, block-cells c (b .block) (b .begun));
-          cuts = omega (arith, q);
-        }
+  -- k is what the builder counts once it is finished
+  pub counting-done : {b : Builder} {at : ℕ} → length bytes ≤ at → Counting f bytes b at → {k : Counts} → Counted (finished b) k
+      → Told (firstOf f) bytes k
+  unfolding places runs blocks
+  counting-done {b} {at} h g q =
+      let gp = rw (ended at h) at (g .places) in
+      let gr = rw (ended at h) at (g .runs) in
+      record {
+        points = omega (arith, gp, q);
+        runs = omega (arith, gr, q, run-cells (b .run));
+        blocks = λ c. omega (arith, rw (ended at h) at (g .blocks c), q, block-cells c (b .block) (b .begun));
+        cuts = omega (arith, q);
+      }
 
-    -- q is what `finish` gave
-    pub counting-done : {q : Builder} {k : Counts} → Counting f bytes b at → q ≡ finished b → Counted q k → Told (firstOf f) bytes k
-    counting-done g e t = counting-end g (rw e at t)
-
-    module _ {c : ℕ → ℕ} {P₀ : List ℤ} {R₀ B₀ : List ℕ} {P : List ℤ} {R B : List ℕ} (g : Filling c P₀ R₀ B₀ P R B b at) where
-      pub filling-done : {q : Builder} {k : Counts} → q ≡ finished b → Counted q k → Told (firstOf f) bytes k
-      filling-done e t = counting-done (counted g) e t
-
-      last-run : runsLeft b (coming at) ≡ runOf (b .run) ++ []
-      unfolding runs
-      last-run = rw (ended at h) (sym (append-nil (runOf (b .run))))
-
-      last-block : blocksLeft c b (coming at) ≡ blockOf c (b .block) (b .begun) ++ []
-      unfolding blocks
-      last-block = rw (ended at h) (sym (append-nil (blockOf c (b .block) (b .begun))))
-
-      pub room-run : b .runs + length (runOf (b .run)) ≤ length R
-      room-run = writing-room (runOf (b .run)) [] (g .runs) last-run
-
-      pub room-block : blockCells * b .blocks + length (blockOf c (b .block) (b .begun)) ≤ length B
-      room-block = writing-room (blockOf c (b .block) (b .begun)) [] (g .blocks) last-block
-
-      module _ (fit : Fits c (firstOf f) bytes (length P₀) (length R₀) (length B₀)) where
-        pub all-places : P ≡ filled Accepted (placesIn (firstOf f) bytes) P₀
-        unfolding filled places
-        all-places = put-front (fit .places) (writing-done (g .places) (rw (ended at h))) .1
-
-        pub all-runs : {R′ : List ℕ} → R′ ≡ sets R (b .runs) (runOf (b .run)) → R′ ≡ filled Accepted (runsIn (firstOf f) bytes) R₀
-        unfolding filled
-        all-runs e = put-front (fit .runs) (writing-done (writing-more {vs = runOf (b .run)} (g .runs) last-run (record { ends = refl; stored = e })) refl) .1
-
-        pub all-blocks : {B′ : List ℕ} → B′ ≡ sets B (blockCells * b .blocks) (blockOf c (b .block) (b .begun)) → B′ ≡ filled Accepted (blocksIn c (firstOf f) bytes) B₀
-        unfolding filled
-        all-blocks e = put-front (fit .blocks) (writing-done (writing-more {vs = blockOf c (b .block) (b .begun)} (g .blocks) last-block (record { ends = refl; stored = e })) refl) .1
-
-  -- ---- from the first record to the last
-
+  -- from the first record to the last
   module _ {c : ℕ → ℕ} {P₀ : List ℤ} {R₀ B₀ : List ℕ} (fit : Fits c (firstOf f) bytes (length P₀) (length R₀) (length B₀)) (s : length bytes ≤ 2097152)
       {b : Builder} {P : List ℤ} {R B : List ℕ} (w : Ended f bytes c origin 0 P₀ R₀ B₀ b P R B) where
     all : Filling c P₀ R₀ B₀ P R B b (w .end)
     all = filling-on c (filling-start P₀ R₀ B₀ fit) (w .went)
 
-    pub end-small : Small b
-    end-small = ready-small c (ready-on c (ready-start c fit s) (w .went))
+    last-run : runsLeft b (coming (w .end)) ≡ runOf (b .run) ++ []
+    unfolding runs
+    last-run = rw (ended (w .end) (w .past)) (sym (append-nil (runOf (b .run))))
 
-    pub end-fewer : finished b .blocks ≤ finished b .runs
-    end-fewer = fewer-blocks (all .bounded) refl
+    last-block : blocksLeft c b (coming (w .end)) ≡ blockOf c (b .block) (b .begun) ++ []
+    unfolding blocks
+    last-block = rw (ended (w .end) (w .past)) (sym (append-nil (blockOf c (b .block) (b .begun))))
 
-    pub end-run : b .runs + length (runOf (b .run)) ≤ length R
-    end-run = room-run (w .past) all
+    -- what `settle` asks, and what follows from what it makes
+    pub can-settle : Small b × ((finished b .blocks ≤ finished b .runs)
+        × ((b .runs + length (runOf (b .run)) ≤ length R) × (blockCells * b .blocks + length (blockOf c (b .block) (b .begun)) ≤ length B)))
+    can-settle =
+        let r = writing-room (runOf (b .run)) [] (all .runs) last-run in
+        let l = writing-room (blockOf c (b .block) (b .begun)) [] (all .blocks) last-block in
+        (ready-small c (ready-on c (ready-start c fit s) (w .went)), (all .bounded .fewer, (r, l)))
 
-    pub end-block : blockCells * b .blocks + length (blockOf c (b .block) (b .begun)) ≤ length B
-    end-block = room-block (w .past) all
+    pub settled : {k : Counts} {R′ B′ : List ℕ} → Counted (finished b) k
+        × ((R′ ≡ sets R (b .runs) (runOf (b .run))) × (B′ ≡ sets B (blockCells * b .blocks) (blockOf c (b .block) (b .begun))))
+        → Told (firstOf f) bytes k × ((P ≡ filled Accepted (placesIn (firstOf f) bytes) P₀)
+        × ((R′ ≡ filled Accepted (runsIn (firstOf f) bytes) R₀) × (B′ ≡ filled Accepted (blocksIn c (firstOf f) bytes) B₀)))
+    unfolding filled places
+    settled q =
+        let r = writing-more {vs = runOf (b .run)} (all .runs) last-run (put-by refl (q .1 .0)) in
+        let l = writing-more {vs = blockOf c (b .block) (b .begun)} (all .blocks) last-block (put-by refl (q .1 .1)) in (
+          counting-done (w .past) (counted all) (q .0),
+          (
+            put-front (fit .places) (writing-done (all .places) (rw (ended (w .end) (w .past)))) .1,
+            (put-front (fit .runs) (writing-done r refl) .1, put-front (fit .blocks) (writing-done l refl) .1),
+          ),
+        )
 
-    pub end-told : {k : Counts} → Counted (finished b) k → Told (firstOf f) bytes k
-    end-told t = filling-done (w .past) all refl t
+-- ---- a loop over the records that begins with b₀ at `from`
 
-    pub end-places : P ≡ filled Accepted (placesIn (firstOf f) bytes) P₀
-    end-places = all-places (w .past) all fit
+pub record Going (f : Format) (bytes : List ℕ) (c : ℕ → ℕ) (b₀ : Builder) (from : ℕ) (P₀ : List ℤ) (R₀ B₀ : List ℕ)
+    (b : Builder) (at : ℕ) (P : List ℤ) (R B : List ℕ) : Type 0 where
+  pub went : Went f bytes c b₀ from P₀ R₀ B₀ b at P R B
+  pub ready : Ready f bytes c b at (length P) (length R) (length B)
+  pub same : Same P₀ R₀ B₀ P R B
 
-    pub end-runs : {R′ : List ℕ} → R′ ≡ sets R (b .runs) (runOf (b .run)) → R′ ≡ filled Accepted (runsIn (firstOf f) bytes) R₀
-    end-runs e = all-runs (w .past) all fit e
+module _ {f : Format} {bytes : List ℕ} {c : ℕ → ℕ} {b₀ : Builder} {from : ℕ} {P₀ : List ℤ} {R₀ B₀ : List ℕ} where
+  pub going-start : {b : Builder} → b ≡ b₀ → Ready f bytes c b₀ from (length P₀) (length R₀) (length B₀)
+      → Going f bytes c b₀ from P₀ R₀ B₀ b from P₀ R₀ B₀
+  going-start e g = rw e (record { went = none; ready = g; same = record { places = refl; runs = refl; blocks = refl } })
 
-    pub end-blocks : {B′ : List ℕ} → B′ ≡ sets B (blockCells * b .blocks) (blockOf c (b .block) (b .begun)) → B′ ≡ filled Accepted (blocksIn c (firstOf f) bytes) B₀
-    end-blocks e = all-blocks (w .past) all fit e
+  module _ {b : Builder} {at : ℕ} {P : List ℤ} {R B : List ℕ} (g : Going f bytes c b₀ from P₀ R₀ B₀ b at P R B) where
+    pub going-on : {q : Builder} {i : ℕ} {P′ : List ℤ} {R′ B′ : List ℕ} → Went f bytes c b at P R B q i P′ R′ B′
+        → Going f bytes c b₀ from P₀ R₀ B₀ q i P′ R′ B′
+    going-on w =
+        let s = went-same f bytes c w in
+        let v = went-on f bytes c (g .went) w in
+        record { went = v; ready = rw (s .places, s .runs, s .blocks) (ready-on f bytes c (g .ready) w); same = went-same f bytes c v }
+
+    pub going-ended : {q : Builder} {P′ : List ℤ} {R′ B′ : List ℕ} → Ended f bytes c b at P R B q P′ R′ B′
+        → Ended f bytes c b₀ from P₀ R₀ B₀ q P′ R′ B′
+    going-ended e = ended-on f bytes c (g .went) e

@@ -1,5 +1,5 @@
 -- One record: the answers to come are what it adds and what comes after it; counts and places stay small. Assumes nothing.
-use Prim.Native.Nat.{ℕ, suc, _+_, _*_, _≤_}
+use Prim.Native.Nat.{ℕ, suc, _+_, _*_, _^_, _≤_, _<_}
 use mathlib.Core.Path.{_≡_, refl, sym, _∙_}
 use mathlib.Core.List.{List, [], _∷_, _++_, append-assoc}
 use native.Mathlib.Numerals.{add-one}
@@ -7,6 +7,12 @@ use native.Mathlib.Omega.{arith}
 use lib.IntN.{ℤ, natAbs, _+ℤ_}
 use lib.ListN.{length, length-append}
 use lib.Seq.{sets}
+use lib.Signed.{mag}
+use mir.Facts.{toZ-ofZ}
+use mir.Syntax.{w32}
+use mir.Val.{SFits, hbits, toZ, ofZ}
+use Rattle.laws.specs.Ints.{ret}
+use Rattle.read_builder.proofs.Places.{kept}
 use Rattle.rules.specs.Answers.{places, runs, blocks, startOf, pointsAfter, begunAfter}
 use Rattle.rules.specs.Limits.{blockCells}
 use Rattle.laws.specs.Buffers.{sets-append}
@@ -14,9 +20,9 @@ use Rattle.rules.specs.Records.{Event, stitch, jump, change, recordThen}
 use Rattle.rules.specs.declared.Record.{Record}
 use Rattle.rules.specs.declared.Record.the-variants.{StitchBy, JumpBy, ChangeBy, Finish}
 use Rattle.read_records.proofs.Formats.{Fair}
-use Rattle.read_records.specs.Fields.{lenOf, dxOf, dyOf}
+use Rattle.read_records.specs.Fields.{lenOf}
 use Rattle.read_builder.proofs.Parts.{run-cells, point-cells, block-cells, sizes}
-use Rattle.read_builder.specs.Builders.{some, followed, placeAfter, placesBy, runsBy, blocksBy}
+use Rattle.read_builder.specs.Builders.{followed, placeAfter, placesBy, runsBy, blocksBy, Reach}
 use Rattle.read_builder.specs.declared.Builder.{Builder}
 use Rattle.read_passes.specs.Walks.{placesLeft, runsLeft, blocksLeft, moved, Bounded}
 
@@ -112,3 +118,19 @@ unfolding startOf
 two-points P n x y u v =
     let e : 2 * (n + 1) ≡ 2 * n + 2 = omega arith in
     rw e (sym (sets-append P (2 * n) (x ∷ y ∷ []) (u ∷ v ∷ [])))
+
+-- ---- an i32 as a callee reads it
+
+abbrev pub read : ℤ → ℤ
+read z = toZ w32 (ofZ w32 z)
+
+pub reads : {z v : ℤ} → mag z < 2 ^ hbits w32 → z ≡ v → read z ≡ v
+reads {z} h e = ret w32 z h ∙ e
+
+-- a sum of two such
+pub summed : (u : ℤ) {z d : ℤ} → mag z < 2 ^ hbits w32 → z ≡ read u +ℤ read d → natAbs u < 2 ^ 31 → SFits w32 d → read z ≡ u +ℤ d
+summed u h e k f = reads h (rw (kept u k, toZ-ofZ f) at e)
+
+-- a step that stays in reach
+pub step-reads : {b : Builder} {dx dy : ℤ} → Reach b dx dy → (read dx ≡ dx) × (read dy ≡ dy)
+step-reads {dx = dx} {dy = dy} h = (kept dx (omega arith), kept dy (omega arith))

@@ -1,4 +1,4 @@
--- Reading the records one after the other: what is still to come, and what so many records have made of the builder and the buffers.
+-- Reading the records one after the other: what remains, and what so many records have made of the builder and the buffers.
 use Prim.Native.Nat.{ℕ, _+_, _*_, _≤_}
 use mathlib.Core.Path.{_≡_}
 use mathlib.Core.List.{List}

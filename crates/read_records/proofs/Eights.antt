@@ -7,11 +7,10 @@ use native.Mathlib.Omega.{arith}
 use native.Mathlib.Nat.{add-assoc}
 use borrow.Author.Tests.{eqb-true, eq-eqb, ltb-true, leb-true, lt-ltb, le-ltb}
 use lib.Bits.{bitAnd, and-block, and-le-l}
-use lib.Dec.{T, ltb, leb, eqb}
+use lib.Dec.{ltb, leb, eqb}
 use lib.ListN.{length, getD, drop}
 use lib.Seq.{drop-drop}
-use mir.Facts.{and-yes, ltb-yes}
-use Rattle.rules.specs.Vocabulary.{all, fromLittle}
+use Rattle.rules.specs.Vocabulary.{fromLittle}
 use Rattle.rules.specs.Pec.{afterAxis, bothAxes, pecFirst}
 use Rattle.rules.specs.declared.Record.the-variants.{StitchBy}
 use Rattle.laws.specs.Tables.{checked}
@@ -34,11 +33,6 @@ peel a v b m x y ha hm hy e =
 abbrev Bytes : List ℕ → Type 0
 Bytes [] = Unit {0}
 Bytes (b ∷ bs) = (b < 256) × Bytes bs
-
-bytes-are : (bs : List ℕ) → T (all (λ (b : ℕ). ltb b 256) bs) → Bytes bs
-unfolding all
-bytes-are [] t = tt
-bytes-are (b ∷ bs) t = let p = and-yes (ltb b 256) (all (λ (d : ℕ). ltb d 256) bs) t in (ltb-yes (p .0), bytes-are bs (p .1))
 
 -- each byte has the value under its mask
 abbrev Each : List ℕ → List ℕ → List ℕ → Type 0
@@ -81,26 +75,29 @@ is-long b h e =
 
 -- ---- one record
 
-module _ (s : List ℕ) (i : ℕ) where
-  short-short : i + 1 < length s → getD s i 0 < 128 → getD s (i + 1) 0 < 128
+module _ (s : List ℕ) (i : ℕ) (small : (k : ℕ) → getD s k 0 < 256) where
+  short-short : i + 1 < length s → bitAnd (getD s i 0) 0x80 ≡ 0x00 → bitAnd (getD s (i + 1) 0) 0x80 ≡ 0x00
       → pecFirst (drop i s) ≡ StitchBy (firstPart (getD s i 0)) (firstPart (getD s (i + 1) 0)) 2
   unfolding afterAxis bothAxes
-  short-short h k l =
+  short-short h a b =
+      let k = is-short _ (small i) a in let l = is-short _ (small (i + 1)) b in
       pec-move s i h (λ p q. omega arith) (λ p q. omega arith)
       ∙ rw (axis-short s i (omega arith) k, drop-drop 1 i s, axis-short s (i + 1) h l, lt-ltb _ 128 k, lt-ltb _ 128 l)
 
-  short-long : i + 2 < length s → getD s i 0 < 128 → Long (getD s (i + 1) 0)
+  short-long : i + 2 < length s → bitAnd (getD s i 0) 0x80 ≡ 0x00 → bitAnd (getD s (i + 1) 0) 0xB0 ≡ 0x80
       → pecFirst (drop i s) ≡ StitchBy (firstPart (getD s i 0)) (axisStep (getD s (i + 1) 0) (getD s (i + 2) 0)) 3
   unfolding afterAxis bothAxes
-  short-long h k l =
+  short-long h a b =
+      let k = is-short _ (small i) a in let l = is-long _ (small (i + 1)) b in
       pec-move s i (omega arith) (λ p q. omega arith) (λ p q. omega arith)
       ∙ rw (axis-short s i (omega arith) k, drop-drop 1 i s, axis-long s (i + 1) (omega arith) (l .high), l .plain, add-assoc i 1 1)
       (rw (lt-ltb _ 128 k, le-ltb _ 128 (l .high)))
 
-  long-long : i + 3 < length s → Long (getD s i 0) → Long (getD s (i + 2) 0)
+  long-long : i + 3 < length s → bitAnd (getD s i 0) 0xB0 ≡ 0x80 → bitAnd (getD s (i + 2) 0) 0xB0 ≡ 0x80
       → pecFirst (drop i s) ≡ StitchBy (axisStep (getD s i 0) (getD s (i + 1) 0)) (axisStep (getD s (i + 2) 0) (getD s (i + 3) 0)) 4
   unfolding afterAxis bothAxes
-  long-long h k l =
+  long-long h a b =
+      let k = is-long _ (small i) a in let l = is-long _ (small (i + 2)) b in
       pec-move s i (omega arith) (λ p q. omega (arith, k .plain)) (λ p q. omega (arith, k .plain))
       ∙ rw (axis-long s i (omega arith) (k .high), k .plain, drop-drop 2 i s, axis-long s (i + 2) (omega arith) (l .high), l .plain, add-assoc i 2 1)
       (rw (le-ltb _ 128 (k .high), le-ltb _ 128 (l .high)))
@@ -117,51 +114,43 @@ module _ (s : List ℕ) (i : ℕ) (small : (k : ℕ) → getD s k 0 < 256) where
   unfolding bytes fourAt fromLittle
   eight-is = simp add-assoc (omega arith)
 
-  bits : (ms ys : List ℕ) → T (all (λ (b : ℕ). ltb b 256) ms) → T (all (λ (b : ℕ). ltb b 256) ys)
-      → masked (fromLittle ms) (fromLittle ys) (eightAt s i) ≡ true → Each bytes ms ys
+  bits : (ms ys : List ℕ) → Bytes ms → Bytes ys → masked (fromLittle ms) (fromLittle ys) (eightAt s i) ≡ true → Each bytes ms ys
   unfolding bytes
   bits ms ys hm hy e =
-      let k : bitAnd (eightAt s i) (fromLittle ms) ≡ fromLittle ys = eqb-true (bitAnd (eightAt s i) (fromLittle ms)) (fromLittle ys) e in
-      each bytes ms ys (small _, (small _, (small _, (small _, (small _, (small _, (small _, (small _, tt))))))))
-      (bytes-are ms hm) (bytes-are ys hy) (ap (λ (v : ℕ). bitAnd v (fromLittle ms)) (sym eight-is) ∙ k)
+      each bytes ms ys (small _, (small _, (small _, (small _, (small _, (small _, (small _, (small _, tt)))))))) hm hy
+      (ap (λ (v : ℕ). bitAnd v (fromLittle ms)) (sym eight-is) ∙ eqb-true (bitAnd (eightAt s i) (fromLittle ms)) (fromLittle ys) e)
 
   module _ (h : i + 8 ≤ length s) where
     pub two-short-here : masked 0x80808080 0 (eightAt s i) ≡ true
         → (pecFirst (drop i s) ≡ StitchBy (firstPart (getD s i 0)) (firstPart (getD s (i + 1) 0)) 2)
         × (pecFirst (drop (i + 2) s) ≡ StitchBy (firstPart (getD s (i + 2) 0)) (firstPart (getD s (i + 3) 0)) 2)
-    unfolding bytes fromLittle all
+    unfolding bytes fromLittle
     two-short-here e =
-        let k = bits (0x80 ∷ 0x80 ∷ 0x80 ∷ 0x80 ∷ 0 ∷ 0 ∷ 0 ∷ 0 ∷ []) (0 ∷ 0 ∷ 0 ∷ 0 ∷ 0 ∷ 0 ∷ 0 ∷ 0 ∷ []) tt tt e in
-        let b₀ = is-short (getD s i 0) (small _) (k .0) in
-        let b₁ = is-short (getD s (i + 1) 0) (small _) (k .1 .0) in
-        let b₂ = is-short (getD s (i + 2) 0) (small _) (k .1 .1 .0) in
-        let b₃ = is-short (getD s (i + 3) 0) (small _) (k .1 .1 .1 .0) in
-        (short-short s i (omega arith) b₀ b₁, simp (add-assoc i 2 1) at (short-short s (i + 2) (omega arith) b₂ (simp (add-assoc i 2 1) b₃)))
+        let k = bits (0x80 ∷ 0x80 ∷ 0x80 ∷ 0x80 ∷ 0 ∷ 0 ∷ 0 ∷ 0 ∷ []) (0 ∷ 0 ∷ 0 ∷ 0 ∷ 0 ∷ 0 ∷ 0 ∷ 0 ∷ []) (omega arith) (omega arith) e in (
+          short-short s i small (omega arith) (k .0) (k .1 .0),
+          simp (add-assoc i 2 1) at (short-short s (i + 2) small (omega arith) (k .1 .1 .0) (simp (add-assoc i 2 1) (k .1 .1 .1 .0))),
+        )
 
     pub two-long-here : masked 0x00B000B000B000B0 0x0080008000800080 (eightAt s i) ≡ true
         → (pecFirst (drop i s) ≡ StitchBy (axisStep (getD s i 0) (getD s (i + 1) 0)) (axisStep (getD s (i + 2) 0) (getD s (i + 3) 0)) 4)
         × (pecFirst (drop (i + 4) s) ≡ StitchBy (axisStep (getD s (i + 4) 0) (getD s (i + 5) 0)) (axisStep (getD s (i + 6) 0) (getD s (i + 7) 0)) 4)
-    unfolding bytes fromLittle all
+    unfolding bytes fromLittle
     two-long-here e =
-        let k = bits (0xB0 ∷ 0 ∷ 0xB0 ∷ 0 ∷ 0xB0 ∷ 0 ∷ 0xB0 ∷ 0 ∷ []) (0x80 ∷ 0 ∷ 0x80 ∷ 0 ∷ 0x80 ∷ 0 ∷ 0x80 ∷ 0 ∷ []) tt tt e in
-        let b₀ = is-long (getD s i 0) (small _) (k .0) in
-        let b₂ = is-long (getD s (i + 2) 0) (small _) (k .1 .1 .0) in
-        let b₄ = is-long (getD s (i + 4) 0) (small _) (k .1 .1 .1 .1 .0) in
-        let b₆ = is-long (getD s (i + 6) 0) (small _) (k .1 .1 .1 .1 .1 .1 .0) in (
-          long-long s i (omega arith) b₀ b₂,
-          simp (add-assoc i 4 1, add-assoc i 4 2, add-assoc i 4 3) at (long-long s (i + 4) (omega arith) b₄ (simp (add-assoc i 4 2) b₆)),
+        let k = bits (0xB0 ∷ 0 ∷ 0xB0 ∷ 0 ∷ 0xB0 ∷ 0 ∷ 0xB0 ∷ 0 ∷ []) (0x80 ∷ 0 ∷ 0x80 ∷ 0 ∷ 0x80 ∷ 0 ∷ 0x80 ∷ 0 ∷ []) (omega arith)
+        (omega arith) e in (
+          long-long s i small (omega arith) (k .0) (k .1 .1 .0),
+          simp (add-assoc i 4 1, add-assoc i 4 2, add-assoc i 4 3) at (long-long s (i + 4) small (omega arith) (k .1 .1 .1 .1 .0)
+              (simp (add-assoc i 4 2) (k .1 .1 .1 .1 .1 .1 .0))),
         )
 
     pub short-long-here : masked 0x000000B08000B080 0x0000008000008000 (eightAt s i) ≡ true
         → (pecFirst (drop i s) ≡ StitchBy (firstPart (getD s i 0)) (axisStep (getD s (i + 1) 0) (getD s (i + 2) 0)) 3)
         × (pecFirst (drop (i + 3) s) ≡ StitchBy (firstPart (getD s (i + 3) 0)) (axisStep (getD s (i + 4) 0) (getD s (i + 5) 0)) 3)
-    unfolding bytes fromLittle all
+    unfolding bytes fromLittle
     short-long-here e =
-        let k = bits (0x80 ∷ 0xB0 ∷ 0 ∷ 0x80 ∷ 0xB0 ∷ 0 ∷ 0 ∷ 0 ∷ []) (0 ∷ 0x80 ∷ 0 ∷ 0 ∷ 0x80 ∷ 0 ∷ 0 ∷ 0 ∷ []) tt tt e in
-        let b₀ = is-short (getD s i 0) (small _) (k .0) in
-        let b₁ = is-long (getD s (i + 1) 0) (small _) (k .1 .0) in
-        let b₃ = is-short (getD s (i + 3) 0) (small _) (k .1 .1 .1 .0) in
-        let b₄ = is-long (getD s (i + 4) 0) (small _) (k .1 .1 .1 .1 .0) in (
-          short-long s i (omega arith) b₀ b₁,
-          simp (add-assoc i 3 1, add-assoc i 3 2) at (short-long s (i + 3) (omega arith) b₃ (simp (add-assoc i 3 1) b₄)),
+        let k = bits (0x80 ∷ 0xB0 ∷ 0 ∷ 0x80 ∷ 0xB0 ∷ 0 ∷ 0 ∷ 0 ∷ []) (0 ∷ 0x80 ∷ 0 ∷ 0 ∷ 0x80 ∷ 0 ∷ 0 ∷ 0 ∷ []) (omega arith)
+        (omega arith) e in (
+          short-long s i small (omega arith) (k .0) (k .1 .0),
+          simp (add-assoc i 3 1, add-assoc i 3 2) at (short-long s (i + 3) small (omega arith) (k .1 .1 .1 .0)
+              (simp (add-assoc i 3 1) (k .1 .1 .1 .1 .0))),
         )

@@ -18,6 +18,7 @@ use Rattle.rules.specs.declared.Format.the-variants.{Pes, Pec, Dst, Exp, Jef}
 use Rattle.rules.specs.declared.Record.{Record}
 use Rattle.rules.specs.declared.Record.the-variants.{StitchBy, JumpBy, ChangeBy, Finish}
 use Rattle.laws.specs.Ints.{abs-neg}
+use Rattle.laws.specs.Tests.{pick-both}
 use Rattle.laws.specs.Reading.{Within, Inside}
 use Rattle.read_records.specs.Fields.{lenOf, dxOf, dyOf}
 use Rattle.read_records.proofs.Signs.{signed-size, less-size}
@@ -40,8 +41,7 @@ near-end : (n : ℕ) → Near Finish n
 near-end n = omega arith
 
 near-pick : {r r′ : Record} {n : ℕ} (b : Bool) → Near r n → Near r′ n → Near (pick b r r′) n
-near-pick true h h′ = h
-near-pick false h h′ = h′
+near-pick {n = n} b h h′ = pick-both (λ (r : Record). Near r n) b h h′
 
 -- ---- EXP and JEF
 
@@ -53,20 +53,15 @@ unfolding two
 near-two true dx dy n hx hy h = omega arith
 near-two false dx dy n hx hy h = omega arith
 
-near-control : (jef : Bool) (c : ℕ) (dx dy : ℤ) (n : ℕ) → natAbs dx ≤ 128 → natAbs dy ≤ 128 → 4 ≤ n → Near (control jef c dx dy) n
-unfolding control
-near-control jef c dx dy n hx hy h =
-    near-pick (eqb c 0x80) (omega arith)
-    (near-pick (eqb c 0x01) (omega arith)
-    (near-pick (eqb c 0x02) (near-two jef dx dy n hx hy h)
-    (near-pick (eqb c 0x04) (omega arith) (near-end n))))
-
 near-80 : (jef : Bool) (l : List ℕ) → Near (after80 jef l) (suc (length l))
-unfolding after80
+unfolding after80 control
 near-80 jef [] = near-end _
 near-80 jef (c ∷ []) = near-end _
 near-80 jef (c ∷ a ∷ []) = near-end _
-near-80 jef (c ∷ a ∷ b ∷ l) = near-pick (eqb c 0x10) (near-end _) (near-control jef c (signed 7 a) (negℤ (signed 7 b)) _ (signed-size 7 a) (minus-size b) (omega arith))
+near-80 jef (c ∷ a ∷ b ∷ l) =
+    let x = signed-size 7 a in let y = minus-size b in
+    near-pick (eqb c 0x10) (near-end _) (near-pick (eqb c 0x80) (omega arith) (near-pick (eqb c 0x01) (omega arith)
+    (near-pick (eqb c 0x02) (near-two jef _ _ _ x y (omega arith)) (near-pick (eqb c 0x04) (omega arith) (near-end _)))))
 
 pub near-pair : (jef : Bool) (l : List ℕ) → Near (pairFirst jef l) (length l)
 unfolding pairFirst
@@ -91,16 +86,14 @@ y-le : (a b c : ℕ) → natAbs (dstY a b c) ≤ 242
 unfolding dstY bit
 y-le a b c = rw abs-neg (step-le _ _ (weigh-le (c / 32) (b / 32) (a / 32) (b / 128) (a / 128)) (weigh-le (c / 16) (b / 16) (a / 16) (b / 64) (a / 64)))
 
-near-kind : (c : ℕ) (dx dy : ℤ) (n : ℕ) → natAbs dx ≤ 242 → natAbs dy ≤ 242 → 3 ≤ n → Near (dstRecord c dx dy) n
-unfolding dstRecord
-near-kind c dx dy n hx hy h = near-pick (under 0xF3 c) (near-end n) (near-pick (under 0xC3 c) (omega arith) (near-pick (under 0x83 c) (omega arith) (omega arith)))
-
 pub near-dst : (l : List ℕ) → Near (dstFirst l) (length l)
-unfolding dstFirst
+unfolding dstFirst dstRecord
 near-dst [] = near-end _
 near-dst (a ∷ []) = near-end _
 near-dst (a ∷ b ∷ []) = near-end _
-near-dst (a ∷ b ∷ c ∷ l) = near-kind c (dstX a b c) (dstY a b c) _ (x-le a b c) (y-le a b c) (omega arith)
+near-dst (a ∷ b ∷ c ∷ l) =
+    let x = x-le a b c in let y = y-le a b c in
+    near-pick (under 0xF3 c) (near-end _) (near-pick (under 0xC3 c) (omega arith) (near-pick (under 0x83 c) (omega arith) (omega arith)))
 
 -- ---- PES and PEC
 
@@ -115,10 +108,6 @@ abbrev SmallAxis : Axis → ℕ → Type 0
 SmallAxis none n = Unit {0}
 SmallAxis (axis j z m) n = Small z m n
 
-small-pick : (b : Bool) (x y : Axis) (n : ℕ) → SmallAxis x n → SmallAxis y n → SmallAxis (pick b x y) n
-small-pick true x y n h k = h
-small-pick false x y n h k = k
-
 small-long : (a : ℕ) (l : List ℕ) → SmallAxis (longAxis a l) (suc (length l))
 unfolding longAxis
 small-long a [] = tt
@@ -127,7 +116,7 @@ small-long a (b ∷ l) = omega (arith, signed-size 11 (a % 16 * 256 + b))
 small-axis : (l : List ℕ) → SmallAxis (axisOf l) (length l)
 unfolding axisOf
 small-axis [] = tt
-small-axis (a ∷ l) = small-pick (ltb a 0x80) (axis false (signed 6 a) 1) (longAxis a l) (suc (length l)) (omega (arith, signed-size 6 a)) (small-long a l)
+small-axis (a ∷ l) = pick-both (λ (x : Axis). SmallAxis x (suc (length l))) (ltb a 0x80) (omega (arith, signed-size 6 a)) (small-long a l)
 
 near-second : (j : Bool) (dx : ℤ) (m n : ℕ) (y : Axis) → Small dx m n → SmallAxis y (n - m) → Near (bothAxes (axis j dx m) y) n
 unfolding bothAxes

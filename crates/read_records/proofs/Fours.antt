@@ -65,60 +65,49 @@ top-is w a e = omega arith
 
 module _ (s : List ℕ) (i : ℕ) (small : (k : ℕ) → getD s k 0 < 256) where
   -- the bytes of the word
-  byte₀ : fourAt s i % 256 ≡ getD s i 0
-  unfolding fourAt
-  byte₀ = omega (arith, small i)
+  record Bytes : Type 0 where
+    first : fourAt s i % 256 ≡ getD s i 0
+    second : fourAt s i / 256 % 256 ≡ getD s (i + 1) 0
+    third : fourAt s i / 65536 % 256 ≡ getD s (i + 2) 0
+    fourth : fourAt s i / 65536 / 256 % 256 ≡ getD s (i + 3) 0
+    low-two : fourAt s i % 65536 ≡ getD s i 0 + 256 * getD s (i + 1) 0
 
-  byte₁ : fourAt s i / 256 % 256 ≡ getD s (i + 1) 0
+  word : Bytes
   unfolding fourAt
-  byte₁ = omega (arith, small i, small (i + 1))
-
-  byte₂ : fourAt s i / 65536 % 256 ≡ getD s (i + 2) 0
-  unfolding fourAt
-  byte₂ = omega (arith, small i, small (i + 1), small (i + 2))
-
-  byte₃ : fourAt s i / 65536 / 256 % 256 ≡ getD s (i + 3) 0
-  unfolding fourAt
-  byte₃ = omega (arith, small i, small (i + 1), small (i + 2), small (i + 3))
-
-  low-two : fourAt s i % 65536 ≡ getD s i 0 + 256 * getD s (i + 1) 0
-  unfolding fourAt
-  low-two = omega (arith, small i, small (i + 1))
+  word = omega (arith, small i, small (i + 1), small (i + 2), small (i + 3))
 
   -- where the second step begins
   abbrev next : ℕ
   next = i + (1 + getD s i 0 / 128)
 
-  past₀ : pastStep (fourAt s i) % 256 ≡ getD s next 0
-  past₀ = by-test (ltb (getD s i 0) 128)
-      (λ e. let n : next ≡ i + 1 = omega (arith, ltb-true (getD s i 0) 128 e) in rw (byte₀, e, n) (omega (arith, byte₁)))
-      (λ e. let n : next ≡ i + 2 = omega (arith, ltb-false (getD s i 0) 128 e, small i) in rw (byte₀, e, n) byte₂)
-
-  past₁ : pastStep (fourAt s i) / 256 % 256 ≡ getD s (next + 1) 0
-  past₁ = by-test (ltb (getD s i 0) 128)
-      (λ e. let n : next + 1 ≡ i + 2 = omega (arith, ltb-true (getD s i 0) 128 e) in rw (byte₀, e, n) (omega (arith, byte₂)))
-      (λ e. let n : next + 1 ≡ i + 3 = omega (arith, ltb-false (getD s i 0) 128 e, small i) in rw (byte₀, e, n) byte₃)
+  past : (pastStep (fourAt s i) % 256 ≡ getD s next 0) × (pastStep (fourAt s i) / 256 % 256 ≡ getD s (next + 1) 0)
+  past = by-test (ltb (getD s i 0) 128)
+      (λ e. let n : next ≡ i + 1 = omega (arith, ltb-true (getD s i 0) 128 e) in let m : next + 1 ≡ i + 2 = omega arith in
+      rw (word .first, e, m, n) (omega (arith, word .second), omega (arith, word .third)))
+      (λ e. let n : next ≡ i + 2 = omega (arith, ltb-false (getD s i 0) 128 e, small i) in let m : next + 1 ≡ i + 3 = omega arith in
+      rw (word .first, e, m, n) (word .third, word .fourth))
 
   module _ (h : i + 4 ≤ length s) where
     pub word-end : fourAt s i % 65536 ≡ 0x00FF → pecFirst (drop i s) ≡ Finish
-    word-end e = pec-end s i (omega arith) (small (i + 1)) (omega (arith, low-two, small i))
+    word-end e = pec-end s i (omega arith) (small (i + 1)) (omega (arith, word .low-two, small i))
 
     pub word-change : fourAt s i % 65536 ≡ 0xB0FE → pecFirst (drop i s) ≡ ChangeBy (pos 0) (pos 0) 3
-    word-change e = pec-change s i (omega arith) (small (i + 1)) (omega (arith, low-two, small i)) ∙ pick-ge (length s - i) 3 Finish (ChangeBy (pos 0) (pos 0) 3) (omega arith)
+    word-change e = pec-change s i (omega arith) (small (i + 1)) (omega (arith, word .low-two, small i))
+        ∙ pick-ge (length s - i) 3 Finish (ChangeBy (pos 0) (pos 0) 3) (omega arith)
 
     moves : pecFirst (drop i s) ≡ bothAxes (axisOf (drop i s)) (afterAxis (axisOf (drop i s)) (drop i s)) → pecFirst (drop i s) ≡ stepsOf (fourAt s i)
     unfolding afterAxis
     moves m =
         let k : getD s i 0 / 128 < 2 = omega (arith, small i) in
         let n : 2 + fourAt s i / 128 % 2 + pastStep (fourAt s i) / 128 % 2 ≡ 1 + getD s i 0 / 128 + (1 + getD s next 0 / 128)
-        = rw (top-is _ _ byte₀, top-is _ _ past₀) (omega arith) in
-        rw (n, past₀, past₁, byte₀, byte₁)
+        = rw (top-is _ _ (word .first), top-is _ _ (past .0)) (omega arith) in
+        rw (n, past .0, past .1, word .first, word .second)
         (m
         ∙ rw (step-is s i (omega arith) (small i), drop-drop (1 + getD s i 0 / 128) i s, step-is s next (omega arith) (small next))
         (both-is (plainStep (getD s i 0)) (plainStep (getD s next 0)) _ _ _ _))
 
     pub word-steps : (fourAt s i % 65536 ≡ 0x00FF → ⊥) → (fourAt s i % 65536 ≡ 0xB0FE → ⊥) → pecFirst (drop i s) ≡ stepsOf (fourAt s i)
-    word-steps e f = moves (pec-move s i (omega arith) (λ p q. e (omega (arith, low-two))) (λ p q. f (omega (arith, low-two))))
+    word-steps e f = moves (pec-move s i (omega arith) (λ p q. e (omega (arith, word .low-two))) (λ p q. f (omega (arith, word .low-two))))
 
     pub word-low : fourAt s i % 256 < 0xFE → pecFirst (drop i s) ≡ stepsOf (fourAt s i)
-    word-low l = moves (pec-move s i (omega arith) (λ p q. omega (arith, byte₀)) (λ p q. omega (arith, byte₀)))
+    word-low l = moves (pec-move s i (omega arith) (λ p q. omega (arith, word .first)) (λ p q. omega (arith, word .first)))

@@ -6,34 +6,19 @@ use lib.IntN.{pos, _-ℤ_}
 use Rattle.rules.specs.Dst.{bit, weigh, dstX, dstY}
 use Rattle.laws.specs.Ints.{same-diff, neg-sub}
 
-low₁ : (a : ℕ) → a % 16 / 2 % 2 ≡ a / 2 % 2
-low₁ a = omega arith
-
-low₂ : (a : ℕ) → a % 16 / 8 % 2 ≡ a / 8 % 2
-low₂ a = omega arith
-
-low₃ : (a : ℕ) → a % 16 % 2 ≡ a / 1 % 2
-low₃ a = omega arith
-
-low₄ : (a : ℕ) → a % 16 / 4 % 2 ≡ a / 4 % 2
-low₄ a = omega arith
+low : (a : ℕ) → (a % 16 / 2 % 2 ≡ a / 2 % 2) × ((a % 16 / 8 % 2 ≡ a / 8 % 2) × ((a % 16 % 2 ≡ a / 1 % 2) × (a % 16 / 4 % 2 ≡ a / 4 % 2)))
+low a = (omega arith, (omega arith, (omega arith, omega arith)))
 
 low-half : (a x : ℕ) → x + (9 * (a % 16 / 8 % 2) + a % 16 / 2 % 2) ≡ 10 + (9 * (a % 16 / 4 % 2) + a % 16 % 2)
     → x + (9 * (a / 8 % 2) + a / 2 % 2) ≡ 10 + (9 * (a / 4 % 2) + a / 1 % 2)
-low-half a x h = rw (low₁ a, low₂ a, low₃ a, low₄ a) at h
+low-half a x h = let l = low a in rw (l .0, l .1 .0, l .1 .1 .0, l .1 .1 .1) at h
 
-high₁ : (a : ℕ) → a / 16 / 2 % 2 ≡ a / 32 % 2
-high₁ a = omega arith
-
-high₂ : (a : ℕ) → a / 16 / 8 % 2 ≡ a / 128 % 2
-high₂ a = omega arith
-
-high₃ : (a : ℕ) → a / 16 / 4 % 2 ≡ a / 64 % 2
-high₃ a = omega arith
+high : (a : ℕ) → (a / 16 / 2 % 2 ≡ a / 32 % 2) × ((a / 16 / 8 % 2 ≡ a / 128 % 2) × (a / 16 / 4 % 2 ≡ a / 64 % 2))
+high a = (omega arith, (omega arith, omega arith))
 
 high-half : (a x : ℕ) → x + (9 * (a / 16 / 2 % 2) + a / 16 / 8 % 2) ≡ 10 + (9 * (a / 16 % 2) + a / 16 / 4 % 2)
     → x + (9 * (a / 32 % 2) + a / 128 % 2) ≡ 10 + (9 * (a / 16 % 2) + a / 64 % 2)
-high-half a x h = rw (high₁ a, high₂ a, high₃ a) at h
+high-half a x h = let l = high a in rw (l .0, l .1 .0, l .1 .1) at h
 
 -- for any numbers as bits: a, b, c add to the step, A, B, C take from it
 sums : (x y a a₉ b b₉ c A A₉ B B₉ C : ℕ) → x + (9 * A₉ + A) ≡ 10 + (9 * a₉ + a) → y + (9 * B₉ + B) ≡ 10 + (9 * b₉ + b)

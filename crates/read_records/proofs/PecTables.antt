@@ -92,14 +92,22 @@ module _ (a : ℕ) (h : a < 256) (b : ℕ) (k : b < 256) where
   sum-read = toZ-ofZ sum-fits ∙ sum-is
 
 -- two marks, each 1 or 0
-pub marks-fit : (p q : Bool) → SFits w32 (pick p (pos 1) (pos 0) *ℤ pick q (pos 1) (pos 0))
-marks-fit true true = record { sfits = omega arith }
-marks-fit true false = record { sfits = omega arith }
-marks-fit false true = record { sfits = omega arith }
-marks-fit false false = record { sfits = omega arith }
+both-fit : (p q : Bool) → SFits w32 (pick p (pos 1) (pos 0) *ℤ pick q (pos 1) (pos 0))
+both-fit p q = by-test p (λ e. rw e (by-test q (λ f. rw f (omega arith)) (λ f. rw f (omega arith))))
+    (λ e. rw e (by-test q (λ f. rw f (omega arith)) (λ f. rw f (omega arith))))
 
-pub marks-both : (p q : Bool) → eqb (ofZ w32 (pick p (pos 1) (pos 0) *ℤ pick q (pos 1) (pos 0))) 1 ≡ (p && q)
-marks-both true true = refl
-marks-both true false = refl
-marks-both false true = refl
-marks-both false false = refl
+both-is : (p q : Bool) → eqb (ofZ w32 (pick p (pos 1) (pos 0) *ℤ pick q (pos 1) (pos 0))) 1 ≡ (p && q)
+both-is true true = refl
+both-is true false = refl
+both-is false true = refl
+both-is false false = refl
+
+module _ {t : List ℤ} (p : PecSteps t) (a : ℕ) (h : a < 256) (b : ℕ) (k : b < 256) where
+  abbrev marks : ℤ
+  marks = toZ w32 (ofZ w32 (getD t (256 + a) (pos 0))) *ℤ toZ w32 (ofZ w32 (getD t (256 + b) (pos 0)))
+
+  pub marks-fit : SFits w32 marks
+  marks-fit = rw (plain-read p a h, plain-read p b k) (both-fit (plainStep a) (plainStep b))
+
+  pub marks-both : eqb (ofZ w32 marks) 1 ≡ (plainStep a && plainStep b)
+  marks-both = rw (plain-read p a h, plain-read p b k) (both-is (plainStep a) (plainStep b))

@@ -97,17 +97,20 @@ module _ (s : List ℕ) (i : ℕ) where
     unfolding pecFirst
     pec-move e f = rw (begins-not 0xFF 0x00 e, begins-not 0xFE 0xB0 f)
 
-    module _ (e : getD s i 0 ≡ 0xFF → getD s (i + 1) 0 ≡ 0x00 → ⊥) (f : getD s i 0 ≡ 0xFE → getD s (i + 1) 0 ≡ 0xB0 → ⊥) where
-      pub pec-no-x : axisOf (drop i s) ≡ none → pecFirst (drop i s) ≡ Finish
+    module _ (e : getD s i 0 * 256 + getD s (i + 1) 0 ≡ 0xFF00 → ⊥) (f : getD s i 0 * 256 + getD s (i + 1) 0 ≡ 0xFEB0 → ⊥) where
+      moved : pecFirst (drop i s) ≡ bothAxes (axisOf (drop i s)) (afterAxis (axisOf (drop i s)) (drop i s))
+      moved = pec-move (λ p q. e (omega arith)) (λ p q. f (omega arith))
+
+      pub pec-no-x : none ≡ axisOf (drop i s) → Finish ≡ pecFirst (drop i s)
       unfolding afterAxis bothAxes
-      pec-no-x x = pec-move e f ∙ rw x
+      pec-no-x x = sym (moved ∙ rw (← x))
 
-      module _ {j : Bool} {dx : ℤ} {m : ℕ} (x : axisOf (drop i s) ≡ axis j dx m) where
-        pub pec-no-y : axisOf (drop (i + m) s) ≡ none → pecFirst (drop i s) ≡ Finish
+      module _ {j : Bool} {dx : ℤ} {m : ℕ} (x : axis j dx m ≡ axisOf (drop i s)) where
+        pub pec-no-y : none ≡ axisOf (drop (i + m) s) → Finish ≡ pecFirst (drop i s)
         unfolding afterAxis bothAxes
-        pec-no-y y = pec-move e f ∙ rw (x, drop-drop m i s, y)
+        pec-no-y y = sym (moved ∙ rw (← x, drop-drop m i s, ← y))
 
-        pub pec-both : {k : Bool} {dy : ℤ} {n : ℕ} → axisOf (drop (i + m) s) ≡ axis k dy n
-            → pecFirst (drop i s) ≡ pick (j || k) (JumpBy dx dy (m + n)) (StitchBy dx dy (m + n))
+        pub pec-both : {k : Bool} {dy : ℤ} {n : ℕ} → axis k dy n ≡ axisOf (drop (i + m) s)
+            → pick (j || k) (JumpBy dx dy (m + n)) (StitchBy dx dy (m + n)) ≡ pecFirst (drop i s)
         unfolding afterAxis bothAxes
-        pec-both y = pec-move e f ∙ rw (x, drop-drop m i s, y)
+        pec-both y = sym (moved ∙ rw (← x, drop-drop m i s, ← y))

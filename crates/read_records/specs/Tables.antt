@@ -1,4 +1,4 @@
--- Tables that a loop is lent.
+-- Tables that a loop is passed.
 use Prim.Native.Nat.{ℕ, _+_, _<_}
 use mathlib.Core.Path.{_≡_}
 use mathlib.Core.Bool.{Bool}

@@ -75,7 +75,7 @@ fn plain(a: u8) -> i32
     0
 }
 
-// Both of each byte, for the loops that are lent it.
+// Both of each byte, for the loops, which are passed it.
 pub fn pec_steps() -> [i32; 512]
     ensures { λ t. ⌜ PecSteps t ⌝ }
 {

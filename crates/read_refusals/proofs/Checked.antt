@@ -62,14 +62,14 @@ module _ (s : List ℕ) where
     unfolding pesFront verdict
     pes-short h = rw (b, lt-ltb (length s) 12 h)
 
-    module _ (h : 12 ≤ length s) where
-      pub pes-below : ltZ (wordAt 8 s) (pos 0) ≡ true → Not StartBelowZero ≡ pesFront s
+    module _ {z : ℤ} (t : (12 ≤ length s) × (wordAt 8 s ≡ z)) where
+      pub pes-below : ltZ z (pos 0) ≡ true → Not StartBelowZero ≡ pesFront s
       unfolding pesFront verdict
-      pes-below e = rw (b, le-ltb (length s) 12 h, e)
+      pes-below e = rw (b, le-ltb (length s) 12 (t .0), t .1, e)
 
-      pub pes-start : ltZ (wordAt 8 s) (pos 0) ≡ false → pecFront (natAbs (wordAt 8 s)) s ≡ pesFront s
+      pub pes-start : ltZ z (pos 0) ≡ false → pecFront (natAbs z) s ≡ pesFront s
       unfolding pesFront verdict noCount partAt
-      pes-start e = rw (b, le-ltb (length s) 12 h, e) (count-byte (natAbs (wordAt 8 s)) s)
+      pes-start e = rw (b, le-ltb (length s) 12 (t .0), t .1, e) (count-byte (natAbs z) s)
 
   pub dst-short : length s < 512 → Not FileTooShort ≡ dstFront s
   unfolding dstFront verdict
@@ -83,9 +83,9 @@ module _ (s : List ℕ) where
   unfolding jefFront verdict
   jef-short h = rw (lt-ltb (length s) 4 h)
 
-  pub jef-whole : {z : ℤ} → 4 ≤ length s → wordAt 0 s ≡ z → At (head.Jef z) ≡ jefFront s
+  pub jef-whole : {z : ℤ} → (4 ≤ length s) × (wordAt 0 s ≡ z) → At (head.Jef z) ≡ jefFront s
   unfolding jefFront verdict
-  jef-whole h e = rw (le-ltb (length s) 4 h, e)
+  jef-whole t = rw (le-ltb (length s) 4 (t .0), t .1)
 
   -- ---- every format: first that the file is not too long
 

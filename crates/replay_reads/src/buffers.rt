@@ -1,4 +1,4 @@
-// The buffers that are lent. Every cell has a mark before a call, so that a write shows.
+// The buffers that are passed to a call. Every cell has a mark before a call, so that a write shows.
 pub const PLACE: i32 = -2023406815;
 
 pub const CELL: u32 = 2271560481;

@@ -1,4 +1,4 @@
--- What a read answers, told from the events still to come: a stitch with no run open opens one at the place it leaves, every stitch
+-- What a read answers, worked out from the remaining events: a stitch with no run open opens one at the place it leaves, every stitch
 -- adds the place it reaches; a jump or colour change ends the run. A colour change opens the next block; blocks are numbered from 0.
 use Prim.Native.Nat.{ℕ, zero, suc, _-_, _/_}
 use mathlib.Core.List.{List, [], _∷_, _++_}

@@ -49,9 +49,9 @@ pub data Row : Type 0 where
   reads : Format → List ℕ → List ℕ → List ℕ → List ℤ → Row
   -- an extension and a file; the label
   labelled : List ℕ → List ℕ → List ℕ → Row
-  -- an extension, a file, the cells lent for places, runs and blocks; the number, points, runs, blocks listed and cuts
+  -- an extension, a file, the cells of the buffers for places, runs and blocks; the number, points, runs, blocks listed and cuts
   toldByRead : List ℕ → List ℕ → ℕ → ℕ → ℕ → List ℕ → Row
-  -- an extension, a file, a buffer lent for runs, the others having 100 cells; what it holds then
+  -- an extension, a file, a buffer for runs, the others having 100 cells; what it holds then
   leaves : List ℕ → List ℕ → List ℕ → List ℕ → Row
   -- a name, the steps of a list on each axis, its kinds and threads, a place in the file and a count of bytes; those bytes
   writes : Format → List ℕ → List ℤ → List ℤ → List ℕ → List ℕ → ℕ → ℕ → List ℕ → Row

@@ -80,7 +80,7 @@ blocksOf f s = blocks (colourOf f s) 0 0 0 (eventsOf f s)
 unfoldable pub fileRefusals : Format → List ℕ → List (Refusal × Bool)
 fileRefusals f s = (FileTooLong, ltb longestFile (length s)) ∷ layoutOf f .refusals s
 
--- 11: a buffer shorter than the answer; n, m, k are the cells lent for places, runs and blocks
+-- 11: a buffer shorter than the answer; n, m, k are the cells of the buffers for places, runs and blocks
 unfoldable pub noRoom : Format → List ℕ → ℕ → ℕ → ℕ → Bool
 noRoom f s n m k = ltb n (length (placesOf f s)) || (ltb m (length (runsOf f s)) || ltb k (length (blocksOf f s)))
 
@@ -126,7 +126,7 @@ unfoldable pub readCounts : ReadAnswer → Counts
 readCounts (Read c) = c
 readCounts (Unread r) = record { points = 0; runs = 0; blocks = 0; cuts = 0 }
 
--- a lent buffer after the call: the answer at its front, and cells past the answer stay; a refusal writes nothing
+-- a caller-provided buffer after the call: the answer at its front, and cells past the answer stay; a refusal writes nothing
 unfoldable pub filled : {A : Type 0} → Verdict → List A → List A → List A
 filled Accepted answer l = answer ++ drop (length answer) l
 filled (Refused r) answer l = l
@@ -138,7 +138,7 @@ unfoldable pub fileTold : Extension → List ℕ → List Cmd → List ℕ → L
 fileTold Unknown name cs threads = []
 fileTold (Of f) name cs threads = fileOf f name cs threads
 
--- Writing checks 1, 6, 7, 8, 9, 10, 11; n is the length of the buffer lent.
+-- Writing checks 1, 6, 7, 8, 9, 10, 11; n is the length of the caller-provided buffer.
 unfoldable pub writeVerdict : Extension → List ℕ → List ℤ → List ℤ → List ℕ → List ℕ → ℕ → Verdict
 writeVerdict Unknown name xs ys kinds threads n = verdict ((UnknownExtension, true) ∷ [])
 writeVerdict (Of f) name xs ys kinds threads n = verdict

@@ -6,7 +6,7 @@ use mathlib.Core.List.{List, [], _∷_, _++_, map}
 use lib.IntN.{ℤ, pos, negsuc, negℤ, natAbs, _-ℤ_}
 use lib.Signed.{leZ}
 use lib.Dec.{ltb, leb}
-use lib.ListN.{length, drop, getD, replicate}
+use lib.ListN.{length, drop, replicate}
 use Rattle.rules.specs.Vocabulary.{pick, bitsOf, little, joined}
 use Rattle.rules.specs.Lists.{opOf, written, width, height, threadsOf}
 use Rattle.rules.specs.Charts.{jefChart}

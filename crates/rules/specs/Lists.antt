@@ -66,7 +66,7 @@ stands Trim = true
 stands ColorChange = true
 stands End = true
 
--- some command passes the test p, which is told the place before it: (x, y) before the first
+-- some command passes the test p, which is given the place before it: (x, y) before the first
 unfoldable pub anyFrom : (ℤ → ℤ → Cmd → Bool) → ℤ → ℤ → List Cmd → Bool
 anyFrom p x y [] = false
 anyFrom p x y (c ∷ cs) = p x y c || anyFrom p (c .x) (c .y) cs

@@ -81,6 +81,6 @@ fileSewing ps rs (k ∷ []) = []
 fileSewing ps rs (k ∷ c ∷ []) = []
 fileSewing ps rs (k ∷ c ∷ m ∷ bs) = runsSewing k m ps rs ++ fileSewing (drop (cells m rs) ps) (drop m rs) bs
 
--- the same from the lent buffers: as many cells at their front as the counts tell
+-- the same from the caller-provided buffers: as many cells at their front as the counts say
 unfoldable pub toldSewing : Counts → List ℤ → List ℕ → List ℕ → List Entry
 toldSewing c ps rs bs = fileSewing (take (2 * c .points) ps) (take (c .runs) rs) (take (blockCells * c .blocks) bs)

@@ -33,7 +33,7 @@ use Rattle.rules.specs.declared.WriteAnswer.the-variants.{Written}
 use Rattle.laws.specs.Verdicts.{verdict-on}
 use Rattle.sewing.specs.Theorem.{kept, alike, read-accepted}
 
--- A list accepted for a format, written into a buffer that is long enough; the file is the front bytes of the length told. It is read
+-- A list accepted for a format, written into a buffer that is long enough; the file is the front bytes of the length reported. It is read
 -- under
 -- the same extension, with buffers that hold the answer. `extension` is what the extension names, whatever its letters' case.
 pub record RoundTrip : Type 0 where

@@ -5,7 +5,7 @@ use mathlib.Core.List.{List, _++_}
 use native.Mathlib.Omega.{arith}
 use lib.IntN.{ℤ}
 use lib.ListN.{length, take, drop, length-append, length-take}
-use Rattle.rules.specs.Files.{fileOf, readVerdict, countsOf, readAnswer, readNumber, readCounts, filled, fileTold, writeVerdict, writeAnswer, writeLength}
+use Rattle.rules.specs.Files.{fileOf, readVerdict, readAnswer, readNumber, readCounts, filled, fileTold, writeVerdict, writeAnswer, writeLength}
 use Rattle.rules.specs.Lists.{commands}
 use Rattle.rules.specs.Promises.{Wrote, ReadOf, Room, WroteAndRead, orThen, roundTripAnswer, roundTripNumber, roundTripCounts}
 use Rattle.rules.specs.Refusals.{listVerdict}

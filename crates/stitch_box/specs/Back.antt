@@ -22,7 +22,7 @@ pub record ReadBackOf (e : Extension) (n : ℕ) (file : List ℕ) (places : List
   pub read : ReadOf e file places runs blocks places′ runs′ blocks′ answer
   pub told : a ≡ backAnswer n answer
 
--- `WroteAndRead` of buffers that a call is lent, at entry and at exit
+-- `WroteAndRead` of buffers that a call is passed, at entry and at exit
 abbrev pub WritesAndReads : Extension → List ℕ → List ℤ → List ℤ → List ℕ → List ℕ → Lent (List ℕ) → Lent (List ℤ) → Lent (List ℕ)
     → Lent (List ℕ) → RoundTripAnswer → Type 0
 WritesAndReads e name xs ys kinds threads file places runs blocks a = WroteAndRead e name xs ys kinds threads

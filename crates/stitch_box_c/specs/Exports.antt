@@ -1,4 +1,4 @@
--- The number, start and length of what the label's call answers, and two promises of crate rules by what an export is lent.
+-- The number, start and length of what the label's call answers, and two promises of crate rules by what an export is passed.
 use Prim.Native.Nat.{ℕ}
 use mathlib.Core.List.{List}
 use denote.Ref.{RefT}
@@ -23,11 +23,11 @@ abbrev pub labelLength : LabelAnswer → ℕ
 labelLength (Found p) = p .len
 labelLength (Not r) = 0
 
--- what a call is lent, at entry and at exit
+-- what a call is passed, at entry and at exit
 abbrev pub Lent : Type 0 → Type 0
 Lent A = Both (RefT A) (RefT A)
 
--- `ReadNumbers` of the buffers and the numbers lent
+-- `ReadNumbers` of the buffers and the numbers passed
 abbrev pub ReadsNumbers : Extension → List ℕ → Lent (List ℤ) → Lent (List ℕ) → Lent (List ℕ) → ℕ → Lent ℕ → Lent ℕ → Lent ℕ → Lent ℕ → Type 0
 ReadsNumbers e file places runs blocks r points runs-n blocks-n cuts =
     ReadNumbers e file (was places) (was runs) (was blocks) (left places) (left runs) (left blocks) r (left points) (left runs-n) (left blocks-n) (left cuts)

@@ -1,4 +1,4 @@
-// The write of a list that is lent as one slice of command records.
+// The write of a list that is passed as one slice of command records.
 use formats::extension_of;
 use rules::Cmd;
 use rules::Extension;

@@ -53,6 +53,15 @@ most-at Jef = omega arith
 pub stepped : {r a b : ℤ} → mag r < 2 ^ hbits w32 → r ≡ toZ w32 (ofZ w32 a) -ℤ toZ w32 (ofZ w32 b) → SFits w32 a → SFits w32 b → toZ w32 (ofZ w32 r) ≡ a -ℤ b
 stepped {r} h e p q = ret w32 r h ∙ e ∙ rw (toZ-ofZ p, toZ-ofZ q)
 
+-- what is known of it: it is small where the difference of the places is
+pub near-step : (a b : ℤ) (n : ℕ) → SFits w32 a → SFits w32 b → natAbs (a -ℤ b) ≤ n → n ≤ 2048
+    → natAbs (toZ w32 (ofZ w32 a) -ℤ toZ w32 (ofZ w32 b)) ≤ 2048
+near-step a b n p q h l = rw (toZ-ofZ p, toZ-ofZ q) (omega arith)
+
+pub stepped-small : (r a b : ℤ) (n : ℕ) → mag r < 2 ^ hbits w32 → r ≡ toZ w32 (ofZ w32 a) -ℤ toZ w32 (ofZ w32 b) → SFits w32 a → SFits w32 b
+    → natAbs (a -ℤ b) ≤ n → natAbs (toZ w32 (ofZ w32 r)) ≤ n
+stepped-small r a b n h e p q l = rw (stepped h e p q) l
+
 -- ---- what is left of a list, from the command at i on, after the place (x, y)
 
 -- its bytes

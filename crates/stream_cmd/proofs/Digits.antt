@@ -1,15 +1,16 @@
 -- The digits of a step by the greedy rule, as the code has them, and the bits of one digit. Assumes nothing.
 use Prim.Native.Nat.{ℕ, zero, suc, _+_, _^_, _≤_, _<_}
 use mathlib.Core.Path.{_≡_, refl, ap, _∙_}
-use mathlib.Core.Bool.{true, false}
 use native.Mathlib.Omega.{arith}
+use borrow.Author.Tests.{ltb-true, ltb-false}
 use lib.IntN.{ℤ, pos, negsuc, natAbs, negℤ, _+ℤ_, _-ℤ_, _*ℤ_}
-use lib.Signed.{ltZ, mag}
+use lib.Dec.{ltb}
+use lib.Signed.{mag}
 use mir.Syntax.{w32}
 use mir.Val.{SFits, hbits, toZ, ofZ}
 use Rattle.rules.specs.Dst.{Digit, minus, nought, plus, digit, rest, z27, z9, z3, z1, pair}
 use Rattle.laws.specs.Tests.{by-test}
-use Rattle.laws.specs.Ints.{ints, abs-is, abs-le, neg-law, add-law, sub-law, mul-law, ret}
+use Rattle.laws.specs.Ints.{ints, up, dn, abs-is, abs-le, neg-law, add-law, sub-law, mul-law, ret, true-lt, false-lt}
 use Rattle.stream_cmd.specs.Cmds.{digitValue}
 
 -- a digit is the sign of its number, which is from -1 to 1
@@ -27,17 +28,17 @@ value-small plus = omega arith
 
 -- what each outcome of the two tests says
 module _ (h : ℕ) (z : ℤ) where
-  pub plus-if : ltZ (pos h) z ≡ true → digit h z ≡ plus
+  pub plus-if : h + dn z < up z → digit h z ≡ plus
   unfolding digit
-  plus-if e = rw e
+  plus-if l = rw (true-lt (pos h) z (omega arith))
 
-  pub minus-if : ltZ (pos h) z ≡ false → ltZ z (negℤ (pos h)) ≡ true → digit h z ≡ minus
+  pub minus-if : up z ≤ h + dn z → h + up z < dn z → digit h z ≡ minus
   unfolding digit
-  minus-if e l = rw (e, l)
+  minus-if k l = rw (false-lt (pos h) z (omega arith), true-lt z (negℤ (pos h)) (omega (arith, neg-law (pos h))))
 
-  pub nought-if : ltZ (pos h) z ≡ false → ltZ z (negℤ (pos h)) ≡ false → digit h z ≡ nought
+  pub nought-if : up z ≤ h + dn z → dn z ≤ h + up z → digit h z ≡ nought
   unfolding digit
-  nought-if e l = rw (e, l)
+  nought-if k l = rw (false-lt (pos h) z (omega arith), false-lt z (negℤ (pos h)) (omega (arith, neg-law (pos h))))
 
 -- what a product takes away is what the digit does
 pub taken : (w : ℕ) (d z : ℤ) → natAbs d ≤ 1 → z -ℤ d *ℤ pos w ≡ rest w (digit 0 d) z
@@ -51,24 +52,22 @@ taken w (negsuc (suc n)) z h = absurd (omega arith)
 -- what it leaves is a step too
 pub rest-small : (w h : ℕ) (z : ℤ) → w ≤ 81 → natAbs z ≤ 121 → natAbs (rest w (digit h z) z) ≤ 121
 unfolding rest
-rest-small w h z l a = let n = neg-law (pos h) in
-    by-test (ltZ (pos h) z)
-    (λ e. rw (plus-if h z e) (abs-le (z -ℤ pos w) 121 (omega (ints, abs-is z, sub-law z (pos w))) (omega (ints, abs-is z, sub-law z (pos w)))))
-    (λ e. by-test (ltZ z (negℤ (pos h)))
-    (λ k. rw (minus-if h z e k) (abs-le (z +ℤ pos w) 121 (omega (ints, abs-is z, add-law z (pos w))) (omega (ints, abs-is z, add-law z (pos w)))))
-    (λ k. rw (nought-if h z e k) a))
+rest-small w h z l a =
+    by-test (ltb (h + dn z) (up z))
+    (λ e. rw (plus-if h z (ltb-true _ _ e))
+    (abs-le (z -ℤ pos w) 121 (omega (ints, abs-is z, sub-law z (pos w))) (omega (ints, abs-is z, sub-law z (pos w), ltb-true))))
+    (λ e. by-test (ltb (h + up z) (dn z))
+    (λ k. rw (minus-if h z (ltb-false _ _ e) (ltb-true _ _ k))
+    (abs-le (z +ℤ pos w) 121 (omega (ints, abs-is z, add-law z (pos w), ltb-true)) (omega (ints, abs-is z, add-law z (pos w)))))
+    (λ k. rw (nought-if h z (ltb-false _ _ e) (ltb-false _ _ k)) a))
 
-pub small27 : (z : ℤ) → natAbs z ≤ 121 → natAbs (z27 z) ≤ 121
-unfolding z27
-small27 z h = rest-small 81 40 z (omega arith) h
-
-pub small9 : (z : ℤ) → natAbs z ≤ 121 → natAbs (z9 z) ≤ 121
-unfolding z9
-small9 z h = rest-small 27 13 (z27 z) (omega arith) (small27 z h)
-
-pub small3 : (z : ℤ) → natAbs z ≤ 121 → natAbs (z3 z) ≤ 121
-unfolding z3
-small3 z h = rest-small 9 4 (z9 z) (omega arith) (small9 z h)
+-- so is what each of the first three leaves
+pub lower-small : (z : ℤ) → natAbs z ≤ 121 → (natAbs (z27 z) ≤ 121) × ((natAbs (z9 z) ≤ 121) × (natAbs (z3 z) ≤ 121))
+unfolding z27 z9 z3
+lower-small z h =
+    let a = rest-small 81 40 z (omega arith) h in
+    let b = rest-small 27 13 (z27 z) (omega arith) a in
+    (a, (b, rest-small 9 4 (z9 z) (omega arith) b))
 
 -- no step has no digits
 pub record Still : Type 0 where

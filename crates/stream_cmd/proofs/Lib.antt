@@ -1,3 +1,4 @@
+pub mod Arms
 pub mod Digits
 pub mod Bytes
 pub mod Parts

@@ -10,15 +10,13 @@ use lib.Dec.{ltb, eqb}
 use lib.Ieee.{Float}
 use lib.IntN.{ℤ, pos, natAbs, _-ℤ_, _+ℤ_}
 use lib.ListN.{length, getD, set, take, drop, replicate, length-set, take-append-drop}
-use lib.Pow.{pow-mono, pow-pos}
+use lib.Pow.{pow-mono}
 use lib.Seq.{set-getD, take-set-le, drop-set-lt, drop-set-add, getD-drop}
 use Rattle.rules.specs.Charts.{blankIcon}
 use Rattle.rules.specs.Lists.{opOf, isChange}
-use Rattle.rules.specs.Thumbnails.{within, pixel, pixelAt, painted, marked, drawn, atFront, colorBlocks}
+use Rattle.rules.specs.Thumbnails.{pixel, pixelAt, painted, marked, drawn, atFront, colorBlocks}
 use Rattle.rules.specs.Vocabulary.{pick, joined}
 use Rattle.rules.specs.declared.Cmd.{Cmd}
-use Rattle.rules.specs.declared.Op.{Op}
-use Rattle.rules.specs.declared.Op.the-variants.{Stitch, Jump, Trim, ColorChange, End}
 use Rattle.rules.specs.declared.Scale.{Scale}
 use Rattle.laws.specs.Lengths.{blank-length, length-blocks}
 use Rattle.laws.specs.Listing.{noCmd}

@@ -1,6 +1,6 @@
 -- A turn of the loop that draws by tables, and the picture of the whole put before those of the blocks.
 use Prim.Native.Nat.{ℕ, suc, _+_, _≤_, _<_}
-use mathlib.Core.Path.{_≡_, refl, sym, ap, subst, _∙_}
+use mathlib.Core.Path.{_≡_, refl, sym, ap, _∙_}
 use mathlib.Core.Bool.{false}
 use mathlib.Core.List.{List, [], _∷_, _++_, append-nil}
 use native.Mathlib.Omega.{arith}
@@ -10,7 +10,7 @@ use lib.ListN.{length, getD, set, drop, length-set, length-drop, length-append}
 use lib.Seq.{sets, set-comm}
 use Rattle.rules.specs.Charts.{blankIcon}
 use Rattle.rules.specs.Lists.{commands}
-use Rattle.laws.specs.Buffers.{Put, Writing, sets-append, put-length, put-as, writing-start, writing-room, writing-more, writing-done}
+use Rattle.laws.specs.Buffers.{Put, Writing, sets-append, put-as, writing-start, writing-room, writing-more, writing-done}
 use Rattle.laws.specs.Lengths.{blank-length}
 use Rattle.rules.specs.declared.Cmd.{Cmd}
 use Rattle.laws.specs.Listing.{cmdAt, commands-more, list-end}
@@ -32,6 +32,7 @@ module _ {A : Type 0} where
   pub put-before : {d d₁ d₂ us vs : List A} {at m k r : ℕ} → m ≡ at + length us → Put d d₁ m r vs → Put d₁ d₂ at k us → Put d d₂ at r (us ++ vs)
   put-before {d} {us = us} {vs = vs} {at = at} e p q = record {
     ends = omega (arith, length-append us vs, p .ends);
+    same = q .same ∙ p .same;
     stored = q .stored ∙ rw (p .stored, e) (sets-sets d at (at + length us) us vs (omega arith) ∙ sym (sets-append d at us vs));
   }
 

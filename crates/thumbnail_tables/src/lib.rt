@@ -150,7 +150,7 @@ fn index_of(from: i32, z: i32) -> usize
     (z - from) as u32 as usize
 }
 
-// Sets the bit of a column in a row, told by their cells.
+// Sets the bit of a column in a row, given by their cells.
 fn set_bit(icon: &mut [u8], column: u16, row: u16)
     requires { ⌜ (length (now icon) ≡ 228) × Inside column row ⌝ }
     ensures { λ _. ⌜ left icon ≡ bitSet (was icon) column row ⌝ }

@@ -1,12 +1,11 @@
 -- Every command lies in the columns and rows between the bounds.
 use Prim.Native.Nat.{ℕ, zero, suc, _+_, _≤_, _<_}
 use mathlib.Core.Path.{_≡_}
-use mathlib.Core.Bool.{true, false}
 use mathlib.Core.List.{List, [], _∷_, map}
 use native.Mathlib.Omega.{arith}
-use lib.IntN.{ℤ, pos, natAbs, _-ℤ_, _+ℤ_}
+use lib.IntN.{ℤ, pos, natAbs, _-ℤ_}
 use lib.ListN.{length, getD}
-use lib.Signed.{leZ, _≤ℤ_, _<ℤ_}
+use lib.Signed.{leZ, _≤ℤ_}
 use Rattle.rules.specs.Lists.{minZ, maxZ, leastFrom, greatestFrom, least, greatest, minX, minY, maxX, maxY}
 use Rattle.rules.specs.declared.Cmd.{Cmd}
 use Rattle.laws.specs.Ints.{ints, abs-is, one0, sub-law, add-law}

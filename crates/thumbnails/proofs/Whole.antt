@@ -14,13 +14,13 @@ use Rattle.rules.specs.Lists.{minX, minY, maxX, maxY}
 use Rattle.rules.specs.Thumbnails.{f4, f5, scaleOf, drawn, icons}
 use Rattle.rules.specs.declared.Cmd.{Cmd}
 use Rattle.rules.specs.declared.Scale.{Scale}
-use Rattle.laws.specs.Buffers.{Put, put-length, put-put, put-as}
+use Rattle.laws.specs.Buffers.{Put, put-put, put-as}
 use Rattle.geom.specs.Frames.{boundsOf}
 use Rattle.geom.specs.declared.Bounds.{Bounds}
 use Rattle.thumbnail_tables.specs.Blocks.{blockIcons, iconsBy}
 use Rattle.thumbnail_scale.proofs.Joined.{scale-same}
 use Rattle.laws.specs.Lengths.{length-icons}
-use Rattle.thumbnails.proofs.Sizes.{icon-long, blocks-long}
+use Rattle.thumbnails.proofs.Sizes.{blocks-long}
 
 module _ (cs : List Cmd) where
   abbrev pub scaled : Float → Scale
@@ -48,8 +48,5 @@ module _ (cs : List Cmd) where
 
   -- after the picture of the whole there is room for those of the blocks, and the two in a row are all
   module _ {d d′ icon : List ℕ} {at m : ℕ} (n : ℕ) (s t : Scale) (e : icon ≡ drawn s blankIcon (slice 0 n cs)) (p : Put d d′ at m icon) where
-    pub blocks-room : at + (228 + length (blockIcons t cs)) ≤ length d → m + length (blockIcons t cs) ≤ length d′
-    blocks-room h = omega (arith, ap length e, icon-long s (slice 0 n cs), put-length p)
-
     pub blocks-put : {d″ : List ℕ} {r : ℕ} → n ≡ length cs → Put d′ d″ m r (blockIcons t cs) → Put d d″ at r (iconsBy s t cs)
     blocks-put k q = put-as (put-put p q) (rw (e, take-all n cs (omega arith)))

@@ -20,7 +20,7 @@ ghost use lib.ListN.{length, drop};
 ghost use lib.Seq.{slice};
 ghost use Rattle.rules.specs.Charts.{blankIcon};
 ghost use Rattle.rules.specs.Lists.{isChange, commands};
-ghost use Rattle.rules.specs.Thumbnails.{floorOf, within, pixel, painted, marked, drawn, icons};
+ghost use Rattle.rules.specs.Thumbnails.{pixel, painted, marked, drawn, icons};
 ghost use Rattle.rules.specs.Promises.{was, left};
 ghost use Rattle.laws.specs.Buffers.{Puts};
 ghost use Rattle.geom.specs.Frames.{boundsOf};

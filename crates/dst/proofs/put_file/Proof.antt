@@ -4,7 +4,7 @@ use Prim.Native.Nat.{ℕ}
 use denote.Ref.{now}
 use lib.ListN.{length-replicate}
 use Rattle.rules.specs.Lists.{commands}
-use Rattle.laws.specs.Buffers.{put-put, put-as, put-length}
+use Rattle.laws.specs.Buffers.{put-put, put-as}
 use Rattle.dst.proofs.Whole.{length-text, file-is, length-file}
 use borrow.Author.Needs.{needs}
 use Rattle.dst.proofs.put_file.Statement.{statement}
@@ -21,7 +21,7 @@ put-blanks-requires c κs =
     let put-text-of = c .before .before .before .put-text-of in let start = c .before .before .before .before .before .before .before .before in
     let a = start .args in
     let cs = commands (now (a .xs)) (now (a .ys)) (now (a .kinds)) in
-    omega (arith, length-file (now (a .name)) cs, length-text (now (a .name)) cs, put-text-of .ensures .ends, put-length (put-text-of .ensures), start .pre .1)
+    omega (arith, length-file (now (a .name)) cs, length-text (now (a .name)) cs, put-text-of .ensures .ends, put-text-of .ensures .same, start .pre .1)
 
 put-stream-requires : tie.Need-put-stream-requires
 put-stream-requires c κs =
@@ -36,9 +36,9 @@ put-stream-requires c κs =
         length-file (now (a .name)) cs,
         length-text (now (a .name)) cs,
         put-text-of .ensures .ends,
-        put-length (put-text-of .ensures),
+        put-text-of .ensures .same,
         put-blanks .ensures .ends,
-        put-length (put-blanks .ensures),
+        put-blanks .ensures .same,
         length-replicate {A = ℕ} 387 0x20,
         start .pre .1,
       ),

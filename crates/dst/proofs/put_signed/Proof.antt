@@ -2,19 +2,10 @@
 use native.Mathlib.Omega.{arith}
 use mir.Facts.{toZ-ofZ}
 use Rattle.laws.specs.Buffers.{put-put, put-as}
-use Rattle.laws.specs.Decimals.{length-right}
-use Rattle.dst.proofs.Lines.{put-line, signed-text}
+use Rattle.dst.proofs.Lines.{put-line, right-ends, signed-text}
 use borrow.Author.Needs.{needs}
 use Rattle.dst.proofs.put_signed.Statement.{statement}
 use Rattle.dst.proofs.put_signed.Tie as tie
-
-put-requires-2 : tie.Need-put-requires-2
-put-requires-2 c κs =
-    let put-right = c .before .before .before .put-right in let size = c .before .before .before .before .size in
-    let put = c .before .before .before .before .before .before .before .before .put in
-    let at-put3 = c .before .before .before .before .before .before .before .before .before .before .before .before .before in
-    let put3 = at-put3 .put3 in let start = at-put3 .before .before .before in
-    omega (arith, put-right .ensures .ends, length-right 5 (size .result), put-right .kept .0, put .ensures .ends, put .kept .0, put3 .ensures .ends, put3 .kept .0, start .pre .1)
 
 returns : tie.Need-returns
 returns c =
@@ -32,4 +23,4 @@ put-signed-spec =
     tie.close
     (tie.spec
     (λ c κs. search needs) (λ c κs. search needs) (λ c κs. search needs) (λ c κs. search needs)
-    (λ c κs. search needs) put-requires-2 (λ c. search needs) returns)
+    (λ c κs. search needs) (λ c κs. omega (arith, right-ends)) (λ c. search needs) returns)

@@ -1,115 +1,46 @@
 -- Five parts, one after the other.
 use mathlib.Core.Path.{_∙_}
+use Prim.Native.Nat.{_≤_}
 use native.Mathlib.Omega.{arith}
 use denote.Ref.{now}
+use lib.ListN.{length}
 use mir.Syntax.{w32}
-use mir.Val.{toZ, ofZ}
+use Rattle.rules.specs.Vocabulary.{count}
 use Rattle.rules.specs.Lists.{commands}
 use Rattle.rules.specs.Refusals.{changes}
 use Rattle.laws.specs.Buffers.{put-put, put-as}
 use Rattle.laws.specs.Ints.{ints, ret}
 use Rattle.laws.specs.Listing.{count-le, length-commands}
-use Rattle.dst.proofs.Lines.{after-put}
-use Rattle.dst.proofs.Text.{length-label, length-counts, length-bounds, length-last, last-x, last-y, text-is}
+use Rattle.dst.proofs.Text.{label-ends, counts-ends, bounds-ends, last-ends, last-x, last-y, text-is}
 use borrow.Author.Needs.{needs}
 use Rattle.dst.proofs.put_text_of.Statement.{statement}
 use Rattle.dst.proofs.put_text_of.Tie as tie
 
-add-records : tie.Need-add-records
-add-records c =
-    let start = c .before .before .before .before .before in
-    omega (arith, c .before .list-len .ensures, length-commands (now (start .args .xs)) (now (start .args .ys)) (now (start .args .kinds)), c .trims .ensures .1, start .pre .0)
-
-cast-put-counts : tie.Need-cast-put-counts
-cast-put-counts c =
-    let trims = c .before .before .before .before .before .trims in let list-len = c .before .before .before .before .before .before .list-len in
-    let start = c .before .before .before .before .before .before .before .before .before .before in
-    omega (ints, list-len .ensures, length-commands (now (start .args .xs)) (now (start .args .ys)) (now (start .args .kinds)), trims .ensures .1, start .pre .0)
-
-cast-put-counts-2 : tie.Need-cast-put-counts-2
-cast-put-counts-2 c =
-    let color-changes = c .before .before .before .before .color-changes in
-    let list-len = c .before .before .before .before .before .before .list-len in
-    let start = c .before .before .before .before .before .before .before .before .before .before in
-    omega (
-      ints,
-      list-len .ensures,
-      length-commands (now (start .args .xs)) (now (start .args .ys)) (now (start .args .kinds)),
-      color-changes .ensures,
-      count-le changes (commands (now (start .args .xs)) (now (start .args .ys)) (now (start .args .kinds))),
-      start .pre .0,
-    )
-
-put-counts-requires : tie.Need-put-counts-requires
-put-counts-requires c κs =
-    let put-label = c .before .before .before .put-label in
-    let start = c .before .before .before .before .before .before .before .before .before .before .before in
-    omega (arith, after-put (length-label (now (start .args .name))) (put-label .ensures), start .pre .1)
+-- how many there are: of the commands no more than of the places, and of all no more than fit
+few : (c : tie.After-list-len)
+    → (let a = c .before .before .before .before .args in let n = c .list-len .result in
+    ((n ≤ length (now (a .xs))) × (n ≤ length (now (a .ys))))
+    × ((n ≤ 65535) × ((length (now (a .kinds)) ≤ 65535) × (count changes (commands (now (a .xs)) (now (a .ys)) (now (a .kinds))) ≤ 65535))))
+few c =
+    let s = c .before .before .before .before in let a = s .args in
+    let l = length-commands (now (a .xs)) (now (a .ys)) (now (a .kinds)) in
+    omega (arith, c .list-len .ensures, count-le changes (commands (now (a .xs)) (now (a .ys)) (now (a .kinds))), s .pre .0)
 
 put-bounds-requires : tie.Need-put-bounds-requires
 put-bounds-requires c κs =
-    let put-counts = c .before .before .before .before .put-counts in
-    let put-label = c .before .before .before .before .before .before .before .before .put-label in
-    let at-trims = c .before .before .before .before .before .before .before .before .before .before .before in
-    let start = at-trims .before .before .before .before .before in
-    omega (
-      arith,
-      after-put (length-label (now (start .args .name))) (put-label .ensures),
-      after-put (length-counts _ _) (put-counts .ensures),
-      start .pre .1,
-    )
-
-last-requires : tie.Need-last-requires
-last-requires c κs =
-    let early = c .before .before .before .before .before .before .before .before .before .before .before .before in
-    let list-len = early .before .before .before .list-len in let start = early .before .before .before .before .before .before .before in
-    omega (arith, list-len .ensures, length-commands (now (start .args .xs)) (now (start .args .ys)) (now (start .args .kinds)))
-
-last-requires-2 : tie.Need-last-requires-2
-last-requires-2 c κs =
-    let early = c .before .before .before .before .before .before .before .before .before .before .before .before in
-    let list-len = early .before .before .before .before .list-len in
-    let start = early .before .before .before .before .before .before .before .before in
-    omega (arith, list-len .ensures, length-commands (now (start .args .xs)) (now (start .args .ys)) (now (start .args .kinds)))
+    let early = c .before .before .before .before .before .before .before .before in
+    omega (arith, label-ends, counts-ends, early)
 
 put-last-requires : tie.Need-put-last-requires
 put-last-requires c κs =
-    let put-bounds = c .before .before .before .before .before .put-bounds in
-    let stream-bounds = c .before .before .before .before .before .before .before .stream-bounds in
-    let put-counts = c .before .before .before .before .before .before .before .before .before .before .put-counts in
-    let at-put-label = c .before .before .before .before .before .before .before .before .before .before .before .before .before .before in
-    let put-label = at-put-label .put-label in
-    let start = at-put-label .before .before .before .before .before .before .before .before in
-    omega (
-      arith,
-      after-put (length-label (now (start .args .name))) (put-label .ensures),
-      after-put (length-counts _ _) (put-counts .ensures),
-      after-put
-          (length-bounds (stream-bounds .result .max .x) (stream-bounds .result .min .x) (stream-bounds .result .max .y) (stream-bounds .result .min .y))
-          (put-bounds .ensures),
-      start .pre .1,
-    )
+    let early = c .before .before .before .before .before .before .before .before .before .before .before .before .before .before in
+    omega (arith, label-ends, counts-ends, bounds-ends, early)
 
 put-end-requires : tie.Need-put-end-requires
 put-end-requires c κs =
-    let put-last = c .before .before .before .put-last in let last2 = c .before .before .before .before .before .last2 in
-    let last = c .before .before .before .before .before .before .last in
-    let put-bounds = c .before .before .before .before .before .before .before .before .before .put-bounds in
-    let at-stream-bounds = c .before .before .before .before .before .before .before .before .before .before .before in
-    let stream-bounds = at-stream-bounds .stream-bounds in let put-counts = at-stream-bounds .before .before .before .put-counts in
-    let put-label = at-stream-bounds .before .before .before .before .before .before .before .put-label in
-    let at-list-len = at-stream-bounds .before .before .before .before .before .before .before .before .before .before .before in
-    let start = at-list-len .before .before .before .before in
-    omega (
-      arith,
-      after-put (length-label (now (start .args .name))) (put-label .ensures),
-      after-put (length-counts _ _) (put-counts .ensures),
-      after-put
-          (length-bounds (stream-bounds .result .max .x) (stream-bounds .result .min .x) (stream-bounds .result .max .y) (stream-bounds .result .min .y))
-          (put-bounds .ensures),
-      after-put (length-last (toZ w32 (ofZ w32 (last .result))) (toZ w32 (ofZ w32 (last2 .result)))) (put-last .ensures),
-      start .pre .1,
-    )
+    let middle = c .before .before .before .before .before .before .before .before .before in
+    let early = middle .before .before .before .before .before .before .before .before .before in
+    omega (arith, label-ends, counts-ends, bounds-ends, last-ends, middle, early)
 
 returns : tie.Need-returns
 returns c =
@@ -134,6 +65,15 @@ pub put-text-of-spec : {M : Type 1} → statement M
 put-text-of-spec =
     tie.close
     (tie.spec
-    (λ c κs. search needs) (λ c κs. search needs) (λ c. search needs) add-records (λ c κs. search needs)
-    (λ c κs. search needs) cast-put-counts cast-put-counts-2 put-counts-requires (λ c κs. search needs)
-    put-bounds-requires last-requires last-requires-2 put-last-requires put-end-requires (λ c. search needs) returns)
+    (λ c κs. search needs) (λ c κs. search needs) (λ c. search needs)
+    (λ c. omega (arith, few (c .before), c .trims .ensures .1)) (λ c κs. search needs) (λ c κs. search needs)
+    (λ c. omega (ints, few (c .before .before .before .before .before .before), c .before .before .before .before .before .trims .ensures .1))
+    (λ c. omega (ints, few (c .before .before .before .before .before .before), c .before .before .before .before .color-changes .ensures))
+    (λ c κs. omega (arith, label-ends)) (λ c κs. search needs) put-bounds-requires
+    (λ c κs. omega (arith, few (c .before .before .before .before .before .before .before .before .before .before .before .before .before .before .before)))
+    (λ c κs. omega (
+      arith,
+      few (c .before .before .before .before .before .before .before .before .before .before
+          .before .before .before .before .before .before),
+    ))
+    put-last-requires put-end-requires (λ c. search needs) returns)

@@ -4,6 +4,7 @@ use native.Mathlib.Numerals.{add-one}
 use native.Mathlib.Omega.{arith}
 use lib.ListN.{length-set}
 use borrow.Author.Needs.{needs}
+use Rattle.laws.specs.Buffers.{put-by}
 use Rattle.emit.proofs.put2.Statement.{statement}
 use Rattle.emit.proofs.put2.Tie as tie
 
@@ -12,4 +13,4 @@ put2-spec =
     tie.close
     (tie.spec
     (λ c. search needs) (λ c. search needs) (λ c. simp length-set (omega arith)) (λ c. search needs) (λ c. search needs)
-    (λ c. record { ends = refl; stored = rw (add-one) }))
+    (λ c. put-by refl (rw (add-one))))

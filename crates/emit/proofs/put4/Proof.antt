@@ -4,6 +4,7 @@ use native.Mathlib.Numerals.{add-one, add-two, add-three}
 use native.Mathlib.Omega.{arith}
 use lib.ListN.{length-set}
 use borrow.Author.Needs.{needs}
+use Rattle.laws.specs.Buffers.{put-by}
 use Rattle.emit.proofs.put4.Statement.{statement}
 use Rattle.emit.proofs.put4.Tie as tie
 
@@ -13,4 +14,4 @@ put4-spec =
     (tie.spec
     (λ c. search needs) (λ c. search needs) (λ c. simp length-set (omega arith)) (λ c. search needs) (λ c. simp length-set (omega arith))
     (λ c. search needs) (λ c. simp length-set (omega arith)) (λ c. search needs) (λ c. search needs)
-    (λ c. record { ends = refl; stored = rw (add-one, add-two, add-three) }))
+    (λ c. put-by refl (rw (add-one, add-two, add-three))))

@@ -1,4 +1,5 @@
 -- A byte that stays is the next to come, any other changes nothing, and blanks are the rest.
+use borrow.Author.Needs.{needs}
 use Prim.Native.Nat.{ℕ, _+_, _-_, _≤_, _<_}
 use mathlib.Core.Path.{_≡_, refl, sym, ap, _∙_}
 use mathlib.Core.Bool.{Bool, _&&_}
@@ -10,7 +11,7 @@ use denote.Ref.{now}
 use lib.Dec.{leb, ltb}
 use lib.ListN.{length, getD, take, drop, replicate, length-replicate}
 use Rattle.rules.specs.Vocabulary.{keep, padded}
-use Rattle.laws.specs.Buffers.{Put, Writing, writing-start, writing-room, writing-more, writing-done, put-length}
+use Rattle.laws.specs.Buffers.{Put, Writing, writing-start, writing-room, writing-more, writing-done}
 use Rattle.laws.specs.Names.{coming, length-coming, name-start, name-more, name-skip, name-full, name-end}
 use Rattle.emit.proofs.put_name.Statement.{statement}
 use Rattle.emit.proofs.put_name.Tie as tie
@@ -90,15 +91,6 @@ put-requires c κs =
     writing-room (getD s (l .i) 0 ∷ []) (coming p (16 - a .most) (l .left - 1) (drop (l .i + 1) s)) (l .inv)
     (name-more p (16 - a .most) (l .left) (l .i) s (positive (l .left) (if1 .left)) (loop-test .taken) (sym (stays′ .ensures) ∙ not-false (stays′ .result) (c .before .if2 .left)))
 
-sub-left : tie.Need-sub-left Inv-loop μ-loop
-sub-left c =
-    let if1 = c .before .before .before .before .before .before .before .if1 in
-    let loop = c .before .before .before .before .before .before .before .before .before .loop in
-    positive (loop .left) (if1 .left)
-
-loop-less-2 : tie.Need-loop-less-2 Inv-loop μ-loop
-loop-less-2 c = omega (arith, c .before .before .before .before .before .before .before .before .loop-test .taken)
-
 loop-again-2 : tie.Need-loop-again-2 Inv-loop μ-loop
 loop-again-2 c =
     let if2 = c .before .before .before .before .if2 in let stays′ = c .before .before .before .before .before .stays in
@@ -138,7 +130,8 @@ pub put-name-spec : {M : Type 1} → statement M
 put-name-spec =
     tie.close
     (tie.spec
-    Inv-loop μ-loop (λ c. c .before .before .pre .0) loop-holds put-times-requires (λ c. put-length (returns c)) returns
-    (λ c. c .before .before .loop-test .taken) (λ c. omega (arith, c .before .before .loop-test .taken)) (λ c κs. tt)
-    (λ c. omega (arith, c .before .before .before .before .loop-test .taken)) loop-again put-requires sub-left loop-less-2 loop-again-2
-    add-put-times put-times-requires-2 (λ c. put-length (returns-2 c)) returns-2)
+    Inv-loop μ-loop (λ c. c .before .before .pre .0) loop-holds put-times-requires (λ c. returns c .same) returns
+    (λ c. c .before .before .loop-test .taken) (λ c. omega (arith, c .before .before .loop-test .taken))
+    (λ c κs. tt) (λ c. omega (arith, c .before .before .before .before .loop-test .taken)) loop-again put-requires
+    (λ c. search needs) (λ c. search needs) loop-again-2 add-put-times put-times-requires-2 (λ c. returns-2 c .same)
+    returns-2)

@@ -1,4 +1,5 @@
 -- One column less is left.
+use borrow.Author.Needs.{needs}
 use Prim.Native.Nat.{ℕ, _-_, _≤_}
 use mathlib.Core.Path.{_≡_}
 use mathlib.Core.List.{[], _∷_}
@@ -35,12 +36,6 @@ put-requires c κs =
     let a = start .args in writing-room (digitAt (loop .left - 1) (a .v) ∷ []) (right (loop .left - 1) (a .v)) (loop .inv .0)
     (right-more (loop .left) (a .v) (c .before .before .loop-test .taken))
 
-sub-left : tie.Need-sub-left Inv-loop μ-loop
-sub-left c = omega (arith, c .before .before .before .before .before .loop-test .taken)
-
-loop-less : tie.Need-loop-less Inv-loop μ-loop
-loop-less c = omega (arith, c .before .before .before .before .before .loop-test .taken)
-
 loop-again : tie.Need-loop-again Inv-loop μ-loop
 loop-again c =
     let digit-at = c .before .before .before .digit-at in let loop-test = c .before .before .before .before .before .loop-test in
@@ -57,8 +52,10 @@ unfolding right
 returns c = writing-done (c .before .loop .inv .0) (rw (zero-at (c .before .loop .left) (c .loop-test .left)))
 
 pub put-right-spec : {M : Type 1} → statement M
+unfolding right
 put-right-spec =
     tie.close
     (tie.spec
-    Inv-loop μ-loop loop-holds (λ c. omega (arith, c .before .loop-test .taken)) (λ c κs. omega (arith, c .before .before .loop .inv .1))
-    put-requires sub-left loop-less loop-again (λ c. c .before .loop .inv .0 .same) returns)
+    Inv-loop μ-loop loop-holds (λ c. omega (arith, c .before .loop-test .taken))
+    (λ c κs. omega (arith, c .before .before .loop .inv .1)) put-requires (λ c. search needs) (λ c. search needs)
+    loop-again (λ c. c .before .loop .inv .0 .same) returns)

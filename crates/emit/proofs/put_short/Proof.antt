@@ -4,9 +4,9 @@ use borrow.Author.Needs.{needs}
 use Rattle.emit.proofs.put_short.Statement.{statement}
 use Rattle.emit.proofs.put_short.Tie as tie
 
-returns : tie.Need-returns
-unfolding little
-returns c = c .before .before .put2 .ensures
-
 pub put-short-spec : {M : Type 1} → statement M
-put-short-spec = tie.close (tie.spec (λ c. search needs) (λ c. search needs) (λ c κs. search needs) (λ c. search needs) returns)
+unfolding little
+put-short-spec =
+    tie.close
+    (tie.spec
+    (λ c. search needs) (λ c. search needs) (λ c κs. search needs) (λ c. search needs) (λ c. search needs))

@@ -1,10 +1,10 @@
 -- One byte of the text after the other.
+use borrow.Author.Needs.{needs}
 use Prim.Native.Nat.{_+_, _-_}
 use mathlib.Core.List.{[], _∷_}
-use native.Mathlib.Omega.{arith}
 use denote.Ref.{now}
 use lib.ListN.{length, drop, getD}
-use Rattle.laws.specs.Buffers.{Writing, writing-start, writing-room, writing-more, writing-done}
+use Rattle.laws.specs.Buffers.{Writing, writing-room, writing-more, writing-done}
 use Rattle.laws.specs.Decimals.{text-more}
 use Rattle.laws.specs.Listing.{list-end}
 use Rattle.emit.proofs.put_text.Statement.{statement}
@@ -16,19 +16,10 @@ Inv-loop out₀ at text i₀ to₀ out i to = Writing out₀ at text out to (dro
 abbrev μ-loop : tie.MeasureT-loop
 μ-loop out₀ at text i₀ to₀ out i to = length text - i
 
-loop-holds : tie.Need-loop-holds Inv-loop μ-loop
-loop-holds c = let a = c .before .before .args in writing-start (now (a .out)) (a .at) (now (a .text)) (c .before .before .pre)
-
 put-requires : tie.Need-put-requires Inv-loop μ-loop
 put-requires c κs =
     let loop = c .before .before .before .loop in let start = c .before .before .before .before .before .before in
     let t = now (start .args .text) in writing-room (getD t (loop .i) 0 ∷ []) (drop (loop .i + 1) t) (loop .inv) (text-more t (loop .i) 0 (c .before .before .loop-test .taken))
-
-add-i : tie.Need-add-i Inv-loop μ-loop
-add-i c = omega (arith, c .before .before .before .before .before .loop-test .taken)
-
-loop-less : tie.Need-loop-less Inv-loop μ-loop
-loop-less c = omega (arith, c .before .before .before .before .before .loop-test .taken)
 
 loop-again : tie.Need-loop-again Inv-loop μ-loop
 loop-again c =
@@ -43,5 +34,5 @@ pub put-text-spec : {M : Type 1} → statement M
 put-text-spec =
     tie.close
     (tie.spec
-    Inv-loop μ-loop loop-holds (λ c. c .before .before .loop-test .taken) put-requires add-i loop-less loop-again
-    (λ c. c .before .loop .inv .same) returns)
+    Inv-loop μ-loop (λ c. search needs) (λ c. c .before .before .loop-test .taken) put-requires (λ c. search needs)
+    (λ c. search needs) loop-again (λ c. c .before .loop .inv .same) returns)

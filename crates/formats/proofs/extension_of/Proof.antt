@@ -1,61 +1,47 @@
 -- `extension_of` meets its contract: one test after the other. Assumes nothing.
-use mathlib.Core.Path.{sym, _∙_}
+use Prim.Native.Nat.{ℕ}
+use mathlib.Core.Path.{_≡_}
+use mathlib.Core.List.{List}
+use denote.Ref.{now}
+use lib.ListN.{drop}
+use Rattle.rules.specs.Formats.{formats}
 use Rattle.rules.specs.Refusals.{namedIn, extensionOf}
 use borrow.Author.Needs.{needs}
 use Rattle.formats.proofs.extension_of.Statement.{statement}
 use Rattle.formats.proofs.extension_of.Tie as tie
 
-returns : tie.Need-returns
-unfolding extensionOf namedIn
-returns c = rw (sym (c .before .is-named .ensures) ∙ c .if1 .taken)
+-- the first n formats are not named
+abbrev Without : ℕ → List ℕ → Type 0
+Without n ext = extensionOf ext ≡ namedIn (drop n formats) ext
 
-returns-2 : tie.Need-returns-2
+without1 : (c : tie.Else1) → Without 1 (now (c .before .before .before .args .ext))
 unfolding extensionOf namedIn
-returns-2 c = rw (
-  sym (c .before .before .before .is-named .ensures) ∙ c .before .before .if1 .left,
-  sym (c .before .is-named2 .ensures) ∙ c .if2 .taken,
-)
+without1 c = rw (← c .before .is-named .ensures, c .if1 .left)
 
-returns-3 : tie.Need-returns-3
+without2 : (c : tie.Else2) → Without 2 (now (c .before .before .before .before .before .args .ext))
 unfolding extensionOf namedIn
-returns-3 c = rw (
-  sym (c .before .before .before .before .before .is-named .ensures) ∙ c .before .before .before .before .if1 .left,
-  sym (c .before .before .before .is-named2 .ensures) ∙ c .before .before .if2 .left,
-  sym (c .before .is-named3 .ensures) ∙ c .if3 .taken,
-)
+without2 c = rw (without1 (c .before .before), ← c .before .is-named2 .ensures, c .if2 .left)
 
-returns-4 : tie.Need-returns-4
+without3 : (c : tie.Else3) → Without 3 (now (c .before .before .before .before .before .before .before .args .ext))
 unfolding extensionOf namedIn
-returns-4 c = rw (
-  sym (c .before .before .before .before .before .before .before .is-named .ensures) ∙ c .before .before .before .before .before .before .if1 .left,
-  sym (c .before .before .before .before .before .is-named2 .ensures) ∙ c .before .before .before .before .if2 .left,
-  sym (c .before .before .before .is-named3 .ensures) ∙ c .before .before .if3 .left,
-  sym (c .before .is-named4 .ensures) ∙ c .if4 .taken,
-)
+without3 c = rw (without2 (c .before .before), ← c .before .is-named3 .ensures, c .if3 .left)
 
-returns-5 : tie.Need-returns-5
+without4 : (c : tie.Else4) → Without 4 (now (c .before .before .before .before .before .before .before .before .before .args .ext))
 unfolding extensionOf namedIn
-returns-5 c = rw (
-  sym (c .before .before .before .before .before .before .before .before .before .is-named .ensures) ∙ c .before .before .before .before .before .before .before .before .if1 .left,
-  sym (c .before .before .before .before .before .before .before .is-named2 .ensures) ∙ c .before .before .before .before .before .before .if2 .left,
-  sym (c .before .before .before .before .before .is-named3 .ensures) ∙ c .before .before .before .before .if3 .left,
-  sym (c .before .before .before .is-named4 .ensures) ∙ c .before .before .if4 .left,
-  sym (c .before .is-named5 .ensures) ∙ c .if5 .taken,
-)
+without4 c = rw (without3 (c .before .before), ← c .before .is-named4 .ensures, c .if4 .left)
 
-returns-6 : tie.Need-returns-6
+without5 : (c : tie.Else5) → Without 5 (now (c .before .before .before .before .before .before .before .before .before .before .before .args .ext))
 unfolding extensionOf namedIn
-returns-6 c = rw (
-  sym (c .before .before .before .before .before .before .before .before .before .is-named .ensures) ∙ c .before .before .before .before .before .before .before .before .if1 .left,
-  sym (c .before .before .before .before .before .before .before .is-named2 .ensures) ∙ c .before .before .before .before .before .before .if2 .left,
-  sym (c .before .before .before .before .before .is-named3 .ensures) ∙ c .before .before .before .before .if3 .left,
-  sym (c .before .before .before .is-named4 .ensures) ∙ c .before .before .if4 .left,
-  sym (c .before .is-named5 .ensures) ∙ c .if5 .left,
-)
+without5 c = rw (without4 (c .before .before), ← c .before .is-named5 .ensures, c .if5 .left)
 
 pub extension-of-spec : {M : Type 1} → statement M
+unfolding extensionOf namedIn
 extension-of-spec =
     tie.close
     (tie.spec
-    (λ c κs. search needs) returns (λ c κs. search needs) returns-2 (λ c κs. search needs) returns-3
-    (λ c κs. search needs) returns-4 (λ c κs. search needs) returns-5 returns-6)
+    (λ c κs. search needs) (λ c. rw (← c .before .is-named .ensures, c .if1 .taken))
+    (λ c κs. search needs) (λ c. rw (without1 (c .before .before), ← c .before .is-named2 .ensures, c .if2 .taken))
+    (λ c κs. search needs) (λ c. rw (without2 (c .before .before), ← c .before .is-named3 .ensures, c .if3 .taken))
+    (λ c κs. search needs) (λ c. rw (without3 (c .before .before), ← c .before .is-named4 .ensures, c .if4 .taken))
+    (λ c κs. search needs) (λ c. rw (without4 (c .before .before), ← c .before .is-named5 .ensures, c .if5 .taken))
+    (λ c. rw (without5 c)))

@@ -6,9 +6,8 @@ use Rattle.formats.proofs.Distances.{bit, half-most}
 use Rattle.formats.proofs.half_to_even.Statement.{statement}
 use Rattle.formats.proofs.half_to_even.Tie as tie
 
-returns : tie.Need-returns
-unfolding halfToEven
-returns c = (refl, half-most (c .args .n) (c .pre))
-
 pub half-to-even-spec : {M : Type 1} → statement M
-half-to-even-spec = tie.close (tie.spec (λ c. record { fits = omega (arith, bit (c .args .n)) }) (λ c. record { fits = omega (arith, bit (c .args .n), c .pre) }) returns)
+unfolding halfToEven
+half-to-even-spec = tie.close (tie.spec (λ c. record { fits = omega (arith, bit (c .args .n)) })
+    (λ c. record { fits = omega (arith, bit (c .args .n), c .pre) })
+    (λ c. (refl, half-most (c .args .n) (c .pre))))

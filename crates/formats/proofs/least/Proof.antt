@@ -5,13 +5,8 @@ use Rattle.laws.specs.Ints.{le-is}
 use Rattle.formats.proofs.least.Statement.{statement}
 use Rattle.formats.proofs.least.Tie as tie
 
-returns : tie.Need-returns
-unfolding minZ
-returns c = rw (le-is (c .before .fits .a) (c .before .fits .b) (c .if1 .taken)) (toZ-ofZ (c .before .fits .a))
-
-returns-2 : tie.Need-returns-2
-unfolding minZ
-returns-2 c = rw (le-is (c .before .fits .a) (c .before .fits .b) (c .if1 .left)) (toZ-ofZ (c .before .fits .b))
-
 pub least-spec : {M : Type 1} → statement M
-least-spec = tie.close (tie.spec returns returns-2)
+unfolding minZ
+least-spec = tie.close (tie.spec
+    (λ c. rw (le-is (c .before .fits .a) (c .before .fits .b) (c .if1 .taken)) (toZ-ofZ (c .before .fits .a)))
+    (λ c. rw (le-is (c .before .fits .a) (c .before .fits .b) (c .if1 .left)) (toZ-ofZ (c .before .fits .b))))

@@ -5,17 +5,10 @@ use borrow.Author.Needs.{needs}
 use Rattle.formats.proofs.lower.Statement.{statement}
 use Rattle.formats.proofs.lower.Tie as tie
 
-returns : tie.Need-returns
-unfolding lower
-returns c = simp (lt-leb _ _ (c .if1 .taken))
-
-returns-2 : tie.Need-returns-2
-unfolding lower
-returns-2 c = simp (le-leb _ _ (c .before .if1 .left), lt-leb _ _ (c .if2 .taken))
-
-returns-3 : tie.Need-returns-3
-unfolding lower
-returns-3 c = simp (le-leb _ _ (c .before .if1 .left), le-leb _ _ (c .if2 .left))
-
 pub lower-spec : {M : Type 1} → statement M
-lower-spec = tie.close (tie.spec returns returns-2 (λ c. search needs) returns-3)
+unfolding lower
+lower-spec = tie.close (tie.spec
+    (λ c. simp (lt-leb _ _ (c .if1 .taken)))
+    (λ c. simp (le-leb _ _ (c .before .if1 .left), lt-leb _ _ (c .if2 .taken)))
+    (λ c. search needs)
+    (λ c. simp (le-leb _ _ (c .before .if1 .left), le-leb _ _ (c .if2 .left))))

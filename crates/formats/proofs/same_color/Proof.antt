@@ -4,18 +4,6 @@ use borrow.Author.Tests.{eq-eqb, ne-eqb}
 use Rattle.formats.proofs.same_color.Statement.{statement}
 use Rattle.formats.proofs.same_color.Tie as tie
 
-returns : tie.Need-returns
-unfolding sameColor
-returns c =
-    let a = c .before .before .before .args in
-    rw (ne-eqb (a .a .0) (a .b .0) (c .if1 .taken))
-
-returns-2 : tie.Need-returns-2
-unfolding sameColor
-returns-2 c =
-    let a = c .before .before .before .before .before .before .args in
-    rw (eq-eqb (a .a .0) (a .b .0) (c .before .before .before .if1 .left), ne-eqb (a .a .1) (a .b .1) (c .if2 .taken))
-
 returns-3 : tie.Need-returns-3
 unfolding sameColor
 returns-3 c =
@@ -23,4 +11,9 @@ returns-3 c =
     rw (eq-eqb (a .a .0) (a .b .0) (c .before .before .before .before .before .if1 .left), eq-eqb (a .a .1) (a .b .1) (c .before .before .if2 .left))
 
 pub same-color-spec : {M : Type 1} → statement M
-same-color-spec = tie.close (tie.spec returns returns-2 returns-3)
+unfolding sameColor
+same-color-spec = tie.close (tie.spec
+    (λ c. let a = c .before .before .before .args in rw (ne-eqb (a .a .0) (a .b .0) (c .if1 .taken)))
+    (λ c. let a = c .before .before .before .before .before .before .args in
+    rw (eq-eqb (a .a .0) (a .b .0) (c .before .before .before .if1 .left), ne-eqb (a .a .1) (a .b .1) (c .if2 .taken)))
+    returns-3)

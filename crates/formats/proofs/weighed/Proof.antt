@@ -1,6 +1,5 @@
 -- `weighed` meets its contract: each product fits. Assumes nothing.
 use Prim.Native.Nat.{_+_, _-_, _*_, _≤_}
-use mathlib.Core.Path.{refl}
 use native.Mathlib.Omega.{arith}
 use Rattle.rules.specs.Choices.{weighed}
 use borrow.Author.Needs.{needs}
@@ -28,15 +27,13 @@ reds c = times (omega (arith, c .pre .0)) (c .pre .1 .0)
 blues : (c : Start) → (767 - c .args .m) * (c .args .b * c .args .b) ≤ 49874175
 blues c = times (omega arith) (c .pre .1 .1 .1)
 
-returns : tie.Need-returns
-unfolding weighed
-returns c = refl
-
 pub weighed-spec : {M : Type 1} → statement M
+unfolding weighed
 weighed-spec =
     tie.close
     (tie.spec
     (λ c. search needs) (λ c. record { fits = omega (arith, red c) }) (λ c. record { fits = omega (arith, reds c) })
     (λ c. record { fits = omega (arith, green c) }) (λ c. record { fits = omega (arith, green c) })
-    (λ c. record { fits = omega (arith, reds c, green c) }) (λ c. search needs) (λ c. record { fits = omega (arith, blue c) })
-    (λ c. record { fits = omega (arith, blues c) }) (λ c. record { fits = omega (arith, reds c, green c, blues c) }) returns)
+    (λ c. record { fits = omega (arith, reds c, green c) }) (λ c. search needs)
+    (λ c. record { fits = omega (arith, blue c) }) (λ c. record { fits = omega (arith, blues c) })
+    (λ c. record { fits = omega (arith, reds c, green c, blues c) }) (λ c. search needs))

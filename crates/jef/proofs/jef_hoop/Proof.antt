@@ -1,5 +1,8 @@
 -- The hoops in the order of the definition.
-use mathlib.Core.Path.{sym, _∙_}
+use mathlib.Core.Path.{_≡_, sym, _∙_}
+use mathlib.Core.Bool.{_&&_}
+use lib.Dec.{ltb}
+use Rattle.rules.specs.Vocabulary.{pick}
 use Rattle.rules.specs.Jef.{jefHoop}
 use borrow.Author.Needs.{needs}
 use Rattle.jef.proofs.jef_hoop.Statement.{statement}
@@ -9,46 +12,29 @@ returns : tie.Need-returns
 unfolding jefHoop
 returns c = rw (sym (c .before .is-under .ensures) ∙ c .if1 .taken)
 
-returns-2 : tie.Need-returns-2
+-- past the first three hoops the last decides
+by-last : (c : tie.Else3)
+    → (let a = c .before .before .before .before .before .before .args in
+    pick (ltb (a .w) 2000 && ltb (a .h) 2000) 4 0 ≡ jefHoop (a .w) (a .h))
 unfolding jefHoop
-returns-2 c = rw (sym (c .before .before .before .is-under .ensures) ∙ c .before .before .if1 .left, sym (c .before .is-under2 .ensures) ∙ c .if2 .taken)
-
-returns-3 : tie.Need-returns-3
-unfolding jefHoop
-returns-3 c =
-    let is-under2 = c .before .before .before .is-under2 in let if1 = c .before .before .before .before .if1 in
-    let is-under = c .before .before .before .before .before .is-under in
-    rw (sym (is-under .ensures) ∙ if1 .left, sym (is-under2 .ensures) ∙ c .before .before .if2 .left, sym (c .before .is-under3 .ensures) ∙ c .if3 .taken)
+by-last c =
+    let c2 = c .before .before in let c1 = c2 .before .before in
+    rw (← c1 .before .is-under .ensures, c1 .if1 .left, ← c2 .before .is-under2 .ensures, c2 .if2 .left, ← c .before .is-under3 .ensures, c .if3 .left)
 
 returns-4 : tie.Need-returns-4
-unfolding jefHoop
-returns-4 c =
-    let is-under3 = c .before .before .before .is-under3 in let if2 = c .before .before .before .before .if2 in
-    let is-under2 = c .before .before .before .before .before .is-under2 in let if1 = c .before .before .before .before .before .before .if1 in
-    let is-under = c .before .before .before .before .before .before .before .is-under in
-    rw (
-      sym (is-under .ensures) ∙ if1 .left,
-      sym (is-under2 .ensures) ∙ if2 .left,
-      sym (is-under3 .ensures) ∙ c .before .before .if3 .left,
-      sym (c .before .is-under4 .ensures) ∙ c .if4 .taken,
-    )
+returns-4 c = rw (← c .before .is-under4 .ensures, c .if4 .taken) at (by-last (c .before .before))
 
 returns-5 : tie.Need-returns-5
-unfolding jefHoop
-returns-5 c =
-    let is-under3 = c .before .before .before .is-under3 in let if2 = c .before .before .before .before .if2 in
-    let is-under2 = c .before .before .before .before .before .is-under2 in let if1 = c .before .before .before .before .before .before .if1 in
-    let is-under = c .before .before .before .before .before .before .before .is-under in
-    rw (
-      sym (is-under .ensures) ∙ if1 .left,
-      sym (is-under2 .ensures) ∙ if2 .left,
-      sym (is-under3 .ensures) ∙ c .before .before .if3 .left,
-      sym (c .before .is-under4 .ensures) ∙ c .if4 .left,
-    )
+returns-5 c = rw (← c .before .is-under4 .ensures, c .if4 .left) at (by-last (c .before .before))
 
 pub jef-hoop-spec : {M : Type 1} → statement M
+unfolding jefHoop
 jef-hoop-spec =
     tie.close
     (tie.spec
-    (λ c κs. search needs) returns (λ c κs. search needs) returns-2 (λ c κs. search needs) returns-3
+    (λ c κs. search needs) returns (λ c κs. search needs)
+    (λ c. let c1 = c .before .before in rw (← c1 .before .is-under .ensures, c1 .if1 .left, ← c .before .is-under2 .ensures, c .if2 .taken))
+    (λ c κs. search needs)
+    (λ c. let c2 = c .before .before in let c1 = c2 .before .before in
+    rw (← c1 .before .is-under .ensures, c1 .if1 .left, ← c2 .before .is-under2 .ensures, c2 .if2 .left, ← c .before .is-under3 .ensures, c .if3 .taken))
     (λ c κs. search needs) returns-4 returns-5)

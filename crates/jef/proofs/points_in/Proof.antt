@@ -30,10 +30,10 @@ nones Trim k = refl
 nones ColorChange k = absurd (miss (2 ∷ 4 ∷ []) 3 tt k)
 nones End k = refl
 
-returns : tie.Need-returns
-unfolding pointsIn
-returns c = (rw (c .enum-told .given .1), omega arith)
-
 pub points-in-spec : {M : Type 1} → statement M
-points-in-spec = tie.close (tie.spec (λ c. search needs) returns (λ c. (twos (c .before .args .op) (c .match .keys2), omega arith))
+unfolding pointsIn
+points-in-spec =
+    tie.close
+    (tie.spec
+    (λ c. search needs) (λ c. search needs) (λ c. (twos (c .before .args .op) (c .match .keys2), omega arith))
     (λ c. (nones (c .before .args .op) (c .match .keys3), omega arith)))

@@ -1,4 +1,5 @@
 -- One thread less is left.
+use borrow.Author.Needs.{needs}
 use Prim.Native.Nat.{_-_, _≤_}
 use native.Mathlib.Omega.{arith}
 use denote.Ref.{now}
@@ -8,7 +9,7 @@ use Rattle.rules.specs.Choices.{jefEntries}
 use Rattle.rules.specs.Jef.{words}
 use Rattle.rules.specs.Lists.{threadsOf}
 use Rattle.rules.specs.declared.Previous.the-variants.{First}
-use Rattle.laws.specs.Buffers.{Writing, writing-start, writing-room, writing-more, writing-done}
+use Rattle.laws.specs.Buffers.{Writing, writing-room, writing-more, writing-done}
 use Rattle.laws.specs.Little.{length-little}
 use Rattle.laws.specs.Neighbours.{jef-choice-in}
 use Rattle.laws.specs.Threads.{threadAt}
@@ -24,11 +25,6 @@ Inv-loop threads out₀ at chart last₀ to₀ i₀ out last to i =
 abbrev μ-loop : tie.MeasureT-loop
 μ-loop threads out₀ at chart last₀ to₀ i₀ out last to i = length threads - i
 
-loop-holds : tie.Need-loop-holds Inv-loop μ-loop
-loop-holds c =
-    let a = c .before .before .before .args in
-    (omega arith, writing-start (now (a .out)) (a .at) (words (jefEntries First (threadsOf (now (a .threads))))) (c .before .before .before .pre))
-
 cast-put-word : tie.Need-cast-put-word Inv-loop μ-loop
 cast-put-word c =
     let s = now (c .before .before .before .before .before .before .before .before .before .before .args .threads) in
@@ -43,9 +39,6 @@ put-word-requires c κs =
     let s = now (start .args .threads) in
     let e = c .before .choice-in in
     omega (arith, writing-room (little 4 (e .result)) _ (l .inv .1) (entries-more (l .last) s (l .i) (loop-test .taken) (e .ensures)), length-little 4 (e .result))
-
-add-i : tie.Need-add-i Inv-loop μ-loop
-add-i c = omega (arith, c .before .before .before .before .before .before .before .before .before .before .before .before .before .good)
 
 loop-again : tie.Need-loop-again Inv-loop μ-loop
 loop-again c =
@@ -65,8 +58,8 @@ pub put-entries-spec : {M : Type 1} → statement M
 put-entries-spec =
     tie.close
     (tie.spec
-    Inv-loop μ-loop (λ c κs. tt) loop-holds (λ c. omega (arith, c .before .before .before .before .good)) (λ c. omega arith)
-    (λ c. omega (arith, c .before .before .before .before .before .before .good)) (λ c. omega arith)
-    (λ c. omega (arith, c .before .before .before .before .before .before .before .good)) (λ c. omega arith)
-    (λ c κs. c .before .before .before .before .before .jef-threads .ensures) cast-put-word put-word-requires add-i (λ c. omega arith) loop-again
-    (λ c. c .before .loop .inv .1 .same) returns)
+    Inv-loop μ-loop (λ c κs. tt) (λ c. search needs) (λ c. omega (arith, c .before .before .before .before .good))
+    (λ c. omega arith) (λ c. omega (arith, c .before .before .before .before .before .before .good))
+    (λ c. omega arith) (λ c. omega (arith, c .before .before .before .before .before .before .before .good))
+    (λ c. omega arith) (λ c κs. c .before .before .before .before .before .jef-threads .ensures) cast-put-word
+    put-word-requires (λ c. search needs) (λ c. omega arith) loop-again (λ c. c .before .loop .inv .1 .same) returns)

@@ -3,7 +3,7 @@ use native.Mathlib.Omega.{arith}
 use denote.Ref.{now}
 use Rattle.rules.specs.Jef.{jefFile}
 use Rattle.rules.specs.Lists.{commands, threadsOf}
-use Rattle.laws.specs.Buffers.{put-put, put-length}
+use Rattle.laws.specs.Buffers.{put-put}
 use Rattle.jef.proofs.Files.{length-file}
 use borrow.Author.Needs.{needs}
 use Rattle.jef.proofs.put_file.Statement.{statement}
@@ -23,7 +23,7 @@ put-stream-requires c κs =
     let a = start .args in
     let cs = commands (now (a .xs)) (now (a .ys)) (now (a .kinds)) in
     let ts = threadsOf (now (a .threads)) in
-    (start .pre .0 .1 .1, omega (arith, length-file cs ts, put-header .ensures .ends, put-length (put-header .ensures), start .pre .1 .1))
+    (start .pre .0 .1 .1, omega (arith, length-file cs ts, put-header .ensures .ends, put-header .ensures .same, start .pre .1 .1))
 
 returns : tie.Need-returns
 unfolding jefFile

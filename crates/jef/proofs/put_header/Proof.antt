@@ -10,8 +10,7 @@ use Rattle.rules.specs.Lists.{commands, threadsOf}
 use Rattle.laws.specs.Buffers.{put-as, put-put}
 use Rattle.geom.proofs.Sizes.{width-is, height-is}
 use Rattle.jef.proofs.Words.{table-short, length-words}
-use Rattle.jef.proofs.Parts.{length-start, length-sizes, header-as, length-header}
-use Rattle.jef.proofs.Far.{Far, far-start, further}
+use Rattle.jef.proofs.Parts.{start-ends, sizes-ends, words-ends, header-as, length-header}
 use borrow.Author.Needs.{needs}
 use Rattle.jef.proofs.put_header.Statement.{statement}
 use Rattle.jef.proofs.put_header.Tie as tie
@@ -28,40 +27,24 @@ put-start-requires c κs =
     let start = c .before .before .before .before .before .before .before .before .before .before .before .before .before .before in
     (table-short (now (start .args .threads)) (start .pre .0 .1) (len .ensures), omega (arith, room start))
 
--- how far each put has come, in a buffer of the same length
-first : (c : tie.After-put-start)
-    → Far (c .put-start .result) 36 (c .put-start .last .1 .1 .1 .0) (now
-    (c .before .before .before .before .before .before .before .before .before .before .before .before .before .before .before .args .out))
-first c =
-    let len = length-start (c .before .before .before .before .before .before .before .before .before .before .before .table-len .result) (c .before .before .before .point-count .result)
-    (c .before .before .jef-hoop .result) in
-    further (far-start 0 (now (c .before .before .before .before .before .before .before .before .before .before .before .before .before .before .before .args .out))) (c .put-start .ensures) len
-
-second : (c : tie.After-put-sizes)
-    → Far (c .put-sizes .result) 116 (c .put-sizes .last .1 .1 .0) (now
-    (c .before .before .before .before .before .before .before .before .before .before .before .before .before .before .before .before .before .before .before .args .out))
-second c =
-    let h = c .before .before .before .before .before .before .before .before in
-    further (first (c .before .before .before .before)) (c .put-sizes .ensures) (length-sizes (h .before .before .before .spread .result) (h .spread2 .result))
-
-third : (c : tie.After-jef-palette)
-    → (let a =
-    c .before .before .before .before .before .before .before .before .before .before .before .before .before .before .before .before .before .before .before .before .before
-    .before .before .args in Far (c .jef-palette .result) (116 + 4 * length (jefTable (threadsOf (now (a .threads))))) (c .jef-palette .last .1 .0) (now (a .out)))
-third c =
-    further (second (c .before .before .before .before)) (c .jef-palette .ensures) (length-words (jefTable (threadsOf (now
-    (c .before .before .before .before .before .before .before .before .before .before .before .before .before .before .before .before .before .before .before .before .before
-    .before .before .args .threads)))))
-
 jef-palette-requires : tie.Need-jef-palette-requires
 jef-palette-requires c κs =
-    let start = c .before .before .before .before .before .before .before .before .before .before .before .before .before .before .before .before .before .before .before .before .before .before in
-    omega (arith, second (c .before .before .before), room start, length-words (jefTable (threadsOf (now (start .args .threads)))))
+    let s = c .before .before .before .before .before .before .before .before .before .before .before
+    .before .before .before .before .before .before .before .before .before .before .before in
+    omega (
+      arith,
+      start-ends,
+      sizes-ends,
+      c .before .before .before .before .before .before,
+      room s,
+      length-words (jefTable (threadsOf (now (s .args .threads)))),
+    )
 
 put-kinds-requires : tie.Need-put-kinds-requires
 put-kinds-requires c κs =
-    let len = c .before .before .before .before .before .before .before .before .before .before .before .before .before .before .before .before .before .before .before .before .before .before in
-    omega (arith, third (c .before .before .before), room (len .before .before .before .before), len .table-len .ensures)
+    let early = c .before .before .before .before .before .before .before .before .before .before in
+    let len = early .before .before .before .before .before .before .before .before .before .before .before .before in
+    omega (arith, start-ends, sizes-ends, words-ends, early, room (len .before .before .before .before), len .table-len .ensures)
 
 -- the bounds, as the code reads them
 across : (c : tie.After-spread) → (let r = c .before .before .before .near-bounds .result in SFits w32 (r .min .x) × SFits w32 (r .max .x))
@@ -91,9 +74,5 @@ put-header-spec =
     (tie.spec
     (λ c κs. search needs) (λ c κs. search needs) (λ c κs. search needs) (λ c κs. search needs)
     (λ c κs. c .before .before .before .before .before .before .before .before .before .before .before .pre .0 .0) (λ c κs. search needs) put-start-requires
-    (λ c κs. omega (
-      arith,
-      first (c .before .before .before),
-      room
-          (c .before .before .before .before .before .before .before .before .before .before .before .before .before .before .before .before .before .before),
-    )) jef-palette-requires put-kinds-requires (λ c. search needs) returns)
+    (λ c κs. let s = c .before .before .before .before .before .before .before .before .before .before .before .before .before .before .before
+    .before .before .before in omega (arith, start-ends, room s)) jef-palette-requires put-kinds-requires (λ c. search needs) returns)

@@ -3,11 +3,10 @@ use Prim.Native.Nat.{ℕ, _≤_, _<_, _-_}
 use mathlib.Core.Path.{_≡_, ap}
 use native.Mathlib.Omega.{arith}
 use borrow.Author.Needs.{needs}
-use lib.Dec.{lit≤}
 use lib.ListN.{length, drop}
 use Rattle.rules.specs.Charts.{color, jefChart}
 use Rattle.rules.specs.Choices.{choices, jefPalette}
-use Rattle.laws.specs.Buffers.{Writing, writing-start, writing-one, writing-done}
+use Rattle.laws.specs.Buffers.{Writing, writing-one, writing-done}
 use Rattle.laws.specs.Choosing.{choices-more}
 use Rattle.jef_threads.proofs.jef_threads.Statement.{statement}
 use Rattle.jef_threads.proofs.jef_threads.Tie as tie
@@ -21,10 +20,6 @@ Inv-loop out₀ i₀ out i = (1 ≤ i) × ((i ≤ 79) × Writing out₀ 1 (drop 
 
 abbrev μ-loop : tie.MeasureT-loop
 μ-loop out₀ i₀ out i = 79 - i
-
-loop-holds : tie.Need-loop-holds Inv-loop μ-loop
-unfolding jefPalette choices jefChart
-loop-holds c = (omega arith, (omega arith, writing-start _ 1 (drop 1 jefPalette) (lit≤ tt)))
 
 loop-again : tie.Need-loop-again Inv-loop μ-loop
 unfolding jefPalette
@@ -41,8 +36,9 @@ returns c =
     writing-done (l .inv .1 .1) (ap (λ (n : ℕ). drop n jefPalette) e) .stored
 
 pub jef-threads-spec : {M : Type 1} → statement M
+unfolding choices jefChart jefPalette
 jef-threads-spec =
     tie.close
     (tie.spec
-    Inv-loop μ-loop loop-holds (λ c κs. omega arith) (λ c. search needs) (λ c. omega arith) (λ c. omega arith) (λ c. omega arith) loop-again
-    returns)
+    Inv-loop μ-loop (λ c. search needs) (λ c κs. omega arith) (λ c. search needs) (λ c. omega arith)
+    (λ c. omega arith) (λ c. omega arith) loop-again returns)

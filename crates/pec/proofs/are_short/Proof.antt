@@ -17,16 +17,6 @@ Inv-loop xs ys kinds i all₀ k₀ all k = (i ≤ k) × ((k ≤ i + 8) × (all �
 abbrev μ-loop : tie.MeasureT-loop
 μ-loop xs ys kinds i all₀ k₀ all k = i + 8 - k
 
-add-loop : tie.Need-add-loop Inv-loop μ-loop
-add-loop c =
-    let a = c .before .before .args in
-    omega (arith, length-commands (now (a .xs)) (now (a .ys)) (now (a .kinds)))
-
-add-k : tie.Need-add-k Inv-loop μ-loop
-add-k c =
-    let a = c .before .before .before .before .args in
-    omega (arith, length-commands (now (a .xs)) (now (a .ys)) (now (a .kinds)))
-
 loop-again : tie.Need-loop-again Inv-loop μ-loop
 loop-again c =
     let head = c .before .before in
@@ -50,5 +40,8 @@ returns c =
 
 pub are-short-spec : {M : Type 1} → statement M
 are-short-spec =
-    tie.close (tie.spec Inv-loop μ-loop (λ c. (omega arith, (omega arith, λ e. shorts-none _ _ _ _))) add-loop
-    (λ c κs. ((omega arith, omega arith), c .before .before .before .pre .1)) add-k (λ c. omega arith) loop-again returns)
+    tie.close (tie.spec Inv-loop μ-loop (λ c. (omega arith, (omega arith, λ e. shorts-none _ _ _ _)))
+    (λ c. let a = c .before .before .args in omega (arith, length-commands (now (a .xs)) (now (a .ys)) (now (a .kinds))))
+    (λ c κs. ((omega arith, omega arith), c .before .before .before .pre .1))
+    (λ c. let a = c .before .before .before .before .args in omega (arith, length-commands (now (a .xs)) (now (a .ys)) (now (a .kinds))))
+    (λ c. omega arith) loop-again returns)

@@ -24,16 +24,6 @@ near c =
     let a = c .args in
     near-step (now (a .xs)) (now (a .ys)) (now (a .kinds)) (c .pre .1) (a .i) (c .pre .0 .0) (c .pre .0 .1)
 
-step-requires : tie.Need-step-requires
-step-requires c κs =
-    let start = c .before .before .before in
-    rw (read-step (now (start .args .xs)) (start .args .i) (c .before .step-arg .given) (c .step-arg2 .given)) (near start .x)
-
-step-requires-2 : tie.Need-step-requires-2
-step-requires-2 c κs =
-    let start = c .before .before .before .before .before .before in
-    rw (read-step (now (start .args .ys)) (start .args .i) (c .before .step-arg3 .given) (c .step-arg4 .given)) (near start .y)
-
 returns : tie.Need-returns
 returns c =
     let first = c .before .before in
@@ -59,7 +49,13 @@ is-short-at-spec =
     tie.close
     (tie.spec
     (λ c. search needs) (λ c. omega (arith, here (c .before))) (λ c. omega (arith, here (c .before))) (λ c. omega (arith, here (c .before .before)))
-    (λ c. omega (arith, here (c .before .before))) step-requires (λ c. search needs) (λ c. omega (arith, here (c .before .before .before .before)))
+    (λ c. omega (arith, here (c .before .before)))
+    (λ c κs. let start = c .before .before .before in
+    rw (read-step (now (start .args .xs)) (start .args .i) (c .before .step-arg .given) (c .step-arg2 .given)) (near start .x))
+    (λ c. search needs) (λ c. omega (arith, here (c .before .before .before .before)))
     (λ c. omega (arith, here (c .before .before .before .before))) (λ c. omega (arith, here (c .before .before .before .before .before)))
-    (λ c. omega (arith, here (c .before .before .before .before .before))) step-requires-2 (λ c κs. search needs) (λ c κs. search needs)
+    (λ c. omega (arith, here (c .before .before .before .before .before)))
+    (λ c κs. let start = c .before .before .before .before .before .before in
+    rw (read-step (now (start .args .ys)) (start .args .i) (c .before .step-arg3 .given) (c .step-arg4 .given)) (near start .y))
+    (λ c κs. search needs) (λ c κs. search needs)
     (λ c. omega (arith, here (c .before .before .before .before .before .before .before .before .before .before))) returns)

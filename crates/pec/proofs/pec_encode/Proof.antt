@@ -1,4 +1,5 @@
 -- What is written is as far as the place; what comes is what the commands left take, from the place of the last.
+use borrow.Author.Needs.{needs}
 use mathlib.Core.Path.{refl}
 use Prim.Native.Nat.{_≤_}
 use native.Mathlib.Omega.{arith}
@@ -49,11 +50,6 @@ put-shorts-requires c κs =
     let r = run (c .before) in
     ((r .behind .some, (r .ahead, r .inside)), (r .short, run-room r refl (c .before .before .before .before .before .loop .inv .1 .0)))
 
-cmd-at-requires : tie.Need-cmd-at-requires Inv-loop μ-loop
-cmd-at-requires c κs =
-    let r = run (c .before .before .before .before) in
-    omega (arith, run-some r, r .inside)
-
 loop-again : tie.Need-loop-again Inv-loop μ-loop
 loop-again c =
     let put = c .before .before .before in
@@ -73,22 +69,12 @@ took c =
     let inside = c .before .before .before .before .before in
     record { walk = inside .before .loop .inv .0; inside = inside .loop-test .taken; is = c .before .cmd-at2 .ensures; step = c .step-to .ensures }
 
-step-to-requires : tie.Need-step-to-requires Inv-loop μ-loop
-step-to-requires c κs =
-    let inside = c .before .before .before .before in
-    next-step (inside .before .loop .inv .0) (inside .loop-test .taken) (c .cmd-at2 .ensures)
-
 put-steps-requires : tie.Need-put-steps-requires Inv-loop μ-loop
 put-steps-requires c κs =
     let asked = c .before .before .before .before in
     let t = took (asked .before) in
     let inv = asked .before .before .before .before .before .before .before .loop .inv in
     (took-step t, going-room t (inv .1 .0) (asked .is-going .ensures) (c .before .before .before .if2 .taken))
-
-loop-less-2 : tie.Need-loop-less-2 Inv-loop μ-loop
-loop-less-2 c =
-    let taken = c .before .before .before .before .before .before .before .before in
-    turns-next (took taken) (taken .before .before .before .before .before .before .loop .wait) (taken .before .before .one-less .result)
 
 loop-again-2 : tie.Need-loop-again-2 Inv-loop μ-loop
 loop-again-2 c =
@@ -104,11 +90,6 @@ put-cmd-requires c κs =
     let t = took (named .before .before .before) in
     let inv = named .before .before .before .before .before .before .before .before .before .loop .inv in
     (took-step t, omega (arith, cmd-room t (inv .1 .0) (named .op-of .ensures), inv .1 .1))
-
-loop-less-3 : tie.Need-loop-less-3 Inv-loop μ-loop
-loop-less-3 c =
-    let taken = c .before .before .before .before .before .before .before .before .before .before in
-    turns-next (took taken) (taken .before .before .before .before .before .before .loop .wait) (taken .before .before .one-less .result)
 
 loop-again-3 : tie.Need-loop-again-3 Inv-loop μ-loop
 loop-again-3 c =
@@ -130,7 +111,16 @@ pec-encode-spec =
     tie.close
     (tie.spec
     Inv-loop μ-loop (λ c κs. tt) (λ c κs. tt) loop-holds (λ c κs. tt) short-till-requires put-shorts-requires
-    (λ c. run-some (run (c .before .before .before .before))) cmd-at-requires (λ c. turns-run (run (c .before .before .before .before .before))) loop-again (λ c κs. tt)
-    (λ c κs. here (c .before .before .before .before .loop .inv .0) (c .before .before .before .loop-test .taken)) step-to-requires (λ c. omega arith) (λ c κs. tt)
-    put-steps-requires loop-less-2 loop-again-2 (λ c κs. tt) put-cmd-requires (λ c κs. tt) loop-less-3 loop-again-3
-    (λ c. c .before .loop .inv .1 .0 .same) returns)
+    (λ c. run-some (run (c .before .before .before .before))) (λ c κs. search needs)
+    (λ c. turns-run (run (c .before .before .before .before .before))) loop-again (λ c κs. tt)
+    (λ c κs. here (c .before .before .before .before .loop .inv .0) (c .before .before .before .loop-test .taken))
+    (λ c κs. let inside = c .before .before .before .before in
+    next-step (inside .before .loop .inv .0) (inside .loop-test .taken) (c .cmd-at2 .ensures))
+    (λ c. omega arith) (λ c κs. tt) put-steps-requires
+    (λ c. let taken = c .before .before .before .before .before .before .before .before in
+    turns-next (took taken) (taken .before .before .before .before .before .before .loop .wait) (taken .before .before .one-less .result))
+    loop-again-2 (λ c κs. tt)
+    put-cmd-requires (λ c κs. tt)
+    (λ c. let taken = c .before .before .before .before .before .before .before .before .before .before in
+    turns-next (took taken) (taken .before .before .before .before .before .before .loop .wait) (taken .before .before .one-less .result))
+    loop-again-3 (λ c. c .before .loop .inv .1 .0 .same) returns)

@@ -43,11 +43,6 @@ short-till-requires c κs =
     let some = looks-on (loop .inv .0) (loop .wait) (c .before .looks .ensures) (c .if1 .taken) .some in
     ((some, omega (arith, loop .inv .0 .count)), c .before .before .before .before .before .before .before .pre .1)
 
-add-total : tie.Need-add-total Inv-loop μ-loop
-add-total c =
-    let head = c .before .before .before .before in
-    omega (arith, run-few (run c), run c .ahead, head .loop .inv .1 .0, head .before .before .before .before .pre .0)
-
 loop-again : tie.Need-loop-again Inv-loop μ-loop
 loop-again c =
     let r = run (c .before) in
@@ -66,21 +61,11 @@ took c =
     let inside = c .before .before .before .before .before in
     record { walk = inside .before .loop .inv .0; inside = inside .loop-test .taken; is = c .before .cmd-at2 .ensures; step = c .step-to .ensures }
 
-step-to-requires : tie.Need-step-to-requires Inv-loop μ-loop
-step-to-requires c κs =
-    let inside = c .before .before .before .before in
-    next-step (inside .before .loop .inv .0) (inside .loop-test .taken) (c .cmd-at2 .ensures)
-
 add-total-2 : tie.Need-add-total-2 Inv-loop μ-loop
 add-total-2 c =
     let taken = c .before .before .before .before .before in
     let head = taken .before .before .before .before .before .before in
     omega (arith, few (took taken), head .before .before .before .before .pre .0, head .loop .inv .1 .0, c .steps-len .ensures .1)
-
-loop-less-2 : tie.Need-loop-less-2 Inv-loop μ-loop
-loop-less-2 c =
-    let taken = c .before .before .before .before .before in
-    turns-next (took taken) (taken .before .before .before .before .before .before .loop .wait) (taken .before .before .one-less .result)
 
 loop-again-2 : tie.Need-loop-again-2 Inv-loop μ-loop
 loop-again-2 c =
@@ -95,11 +80,6 @@ add-total-3 c =
     let taken = c .before .before .before .before .before .before in
     let head = taken .before .before .before .before .before .before in
     omega (arith, few (took taken), head .before .before .before .before .pre .0, head .loop .inv .1 .0, c .cmd-len .ensures .1)
-
-loop-less-3 : tie.Need-loop-less-3 Inv-loop μ-loop
-loop-less-3 c =
-    let taken = c .before .before .before .before .before .before .before in
-    turns-next (took taken) (taken .before .before .before .before .before .before .loop .wait) (taken .before .before .one-less .result)
 
 loop-again-3 : tie.Need-loop-again-3 Inv-loop μ-loop
 loop-again-3 c =
@@ -122,7 +102,19 @@ pec-len-spec =
     tie.close
     (tie.spec
     Inv-loop μ-loop (λ c κs. tt) (λ c κs. tt) loop-holds (λ c κs. tt) short-till-requires (λ c. omega (arith, run c .ahead))
-    (λ c. omega (arith, run-few (run c), c .before .before .before .before .before .before .before .before .pre .0)) add-total (λ c. run-some (run c))
+    (λ c. omega (arith, run-few (run c), c .before .before .before .before .before .before .before .before .pre .0))
+    (λ c. let head = c .before .before .before .before in
+    omega (arith, run-few (run c), run c .ahead, head .loop .inv .1 .0, head .before .before .before .before .pre .0))
+    (λ c. run-some (run c))
     (λ c κs. omega (arith, run-some (run c), run c .inside)) (λ c. turns-run (run (c .before))) loop-again (λ c κs. tt)
-    (λ c κs. here (c .before .before .before .before .loop .inv .0) (c .before .before .before .loop-test .taken)) step-to-requires (λ c. omega arith) (λ c κs. tt)
-    (λ c κs. tt) add-total-2 loop-less-2 loop-again-2 (λ c κs. tt) (λ c κs. tt) add-total-3 (λ c κs. tt) loop-less-3 loop-again-3 returns)
+    (λ c κs. here (c .before .before .before .before .loop .inv .0) (c .before .before .before .loop-test .taken))
+    (λ c κs. let inside = c .before .before .before .before in
+    next-step (inside .before .loop .inv .0) (inside .loop-test .taken) (c .cmd-at2 .ensures))
+    (λ c. omega arith) (λ c κs. tt)
+    (λ c κs. tt) add-total-2
+    (λ c. let taken = c .before .before .before .before .before in
+    turns-next (took taken) (taken .before .before .before .before .before .before .loop .wait) (taken .before .before .one-less .result))
+    loop-again-2 (λ c κs. tt) (λ c κs. tt) add-total-3 (λ c κs. tt)
+    (λ c. let taken = c .before .before .before .before .before .before .before in
+    turns-next (took taken) (taken .before .before .before .before .before .before .loop .wait) (taken .before .before .one-less .result))
+    loop-again-3 returns)

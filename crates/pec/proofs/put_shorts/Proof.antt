@@ -1,4 +1,5 @@
 -- What is written is as far as k, and what comes is from there to j.
+use borrow.Author.Needs.{needs}
 use mathlib.Core.Path.{_≡_, refl, _∙_}
 use mathlib.Core.List.{List, [], _∷_}
 use Prim.Native.Nat.{ℕ, _+_, _-_, _≤_, _<_}
@@ -89,11 +90,6 @@ put2-requires c κs =
     let vs = bitsOf 6 (stepTo (now (a .xs)) k) ∷ bitsOf 6 (stepTo (now (a .ys)) k) ∷ [] in
     writing-room vs (pairs (now (a .xs)) (now (a .ys)) (k + 1) (a .j - (k + 1))) (head .loop .inv .1) (more-pairs (now (a .xs)) (now (a .ys)) k (a .j) (inside .loop-test .taken))
 
-add-k : tie.Need-add-k Inv-loop μ-loop
-add-k c =
-    let inside = c .before .before .before .before .before .before .before .before .before .before .before .before in
-    omega (arith, here inside, inside .before .before .before .before .good)
-
 loop-again : tie.Need-loop-again Inv-loop μ-loop
 loop-again c =
     let done = c .before .before in
@@ -113,10 +109,11 @@ pub put-shorts-spec : {M : Type 1} → statement M
 put-shorts-spec =
     tie.close
     (tie.spec
-    Inv-loop μ-loop loop-holds (λ c. omega (arith, here c)) (λ c. omega (arith, here c)) (λ c. omega (arith, here c))
-    (λ c. omega (arith, here (c .before))) (λ c. omega (arith, here (c .before))) step-requires
+    Inv-loop μ-loop loop-holds (λ c. omega (arith, here c)) (λ c. omega (arith, here c))
+    (λ c. omega (arith, here c)) (λ c. omega (arith, here (c .before))) (λ c. omega (arith, here (c .before)))
+    step-requires (λ c. omega (arith, here (c .before .before .before)))
     (λ c. omega (arith, here (c .before .before .before))) (λ c. omega (arith, here (c .before .before .before)))
-    (λ c. omega (arith, here (c .before .before .before))) (λ c. omega (arith, here (c .before .before .before .before)))
-    (λ c. omega (arith, here (c .before .before .before .before))) step-requires-2 (λ c κs. omega (arith, small (c .before)))
-    (λ c κs. omega (arith, small (c .before .before))) put2-requires add-k (λ c. omega arith) loop-again
-    (λ c. c .before .loop .inv .1 .same) returns)
+    (λ c. omega (arith, here (c .before .before .before .before)))
+    (λ c. omega (arith, here (c .before .before .before .before))) step-requires-2
+    (λ c κs. omega (arith, small (c .before))) (λ c κs. omega (arith, small (c .before .before))) put2-requires
+    (λ c. search needs) (λ c. omega arith) loop-again (λ c. c .before .loop .inv .1 .same) returns)

@@ -1,5 +1,4 @@
 -- Each operation has its own length.
-use mathlib.Core.Path.{refl}
 use native.Mathlib.Omega.{arith}
 use mir.Facts.{toZ-ofZ}
 use Rattle.rules.specs.Pec.{wide, pecCmd}
@@ -20,28 +19,18 @@ returns c =
     let r = rw (toZ-ofZ (s .fits .dy)) at (c .value-len2 .ensures .0) in
     rw (pz .before .before .enum-told .given .1) (omega (arith, long, p, q, r), omega (arith, pz .pause-len .ensures .1, v .value-len .ensures .1, c .value-len2 .ensures .1))
 
-returns-2 : tie.Need-returns-2
-unfolding pecCmd wide
-returns-2 c = rw (c .enum-told2 .given .1) (refl, omega arith)
-
-returns-3 : tie.Need-returns-3
-unfolding pecCmd
-returns-3 c = rw (c .enum-told3 .given .1) (refl, omega arith)
-
 returns-4 : tie.Need-returns-4
 returns-4 c =
     let s = c .before .before .before in
     let long = change-long (stateOf (s .args .s)) (s .args .dx) (s .args .dy) in
     rw (c .before .enum-told4 .given .1) (omega (arith, long, c .pause-len2 .ensures .0), omega (arith, c .pause-len2 .ensures .1))
 
-returns-5 : tie.Need-returns-5
-unfolding pecCmd
-returns-5 c = rw (c .enum-told5 .given .1) (refl, omega arith)
-
 pub cmd-len-spec : {M : Type 1} → statement M
+unfolding pecCmd wide
 cmd-len-spec =
     tie.close
     (tie.spec
     (λ c. search needs) (λ c κs. search needs) (λ c κs. search needs) (λ c κs. search needs) (λ c. search needs)
     (λ c κs. search needs) (λ c. search needs) (λ c. search needs) (λ c. search needs) (λ c. search needs)
-    (λ c κs. search needs) (λ c. search needs) (λ c. search needs) returns returns-2 returns-3 returns-4 returns-5)
+    (λ c κs. search needs) (λ c. search needs) (λ c. search needs) returns (λ c. search needs) (λ c. search needs)
+    returns-4 (λ c. search needs))

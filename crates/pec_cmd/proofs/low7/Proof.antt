@@ -5,14 +5,9 @@ use borrow.Author.Needs.{needs}
 use Rattle.pec_cmd.proofs.low7.Statement.{statement}
 use Rattle.pec_cmd.proofs.low7.Tie as tie
 
-add-result : tie.Need-add-result
-add-result c = over-fits 6 (omega arith) (c .fits .z) (omega (arith, c .pre))
-
-cast-result : tie.Need-cast-result
-cast-result c = over-cast 6 (omega arith) (c .fits .z) (omega (arith, c .pre))
-
-returns : tie.Need-returns
-returns c = over-low 6 (omega arith) (c .fits .z) (omega (arith, c .pre))
-
 pub low7-spec : {M : Type 1} → statement M
-low7-spec = tie.close (tie.spec add-result cast-result (λ c. search needs) returns)
+low7-spec = tie.close (tie.spec
+    (λ c. over-fits 6 (omega arith) (c .fits .z) (omega (arith, c .pre)))
+    (λ c. over-cast 6 (omega arith) (c .fits .z) (omega (arith, c .pre)))
+    (λ c. search needs)
+    (λ c. over-low 6 (omega arith) (c .fits .z) (omega (arith, c .pre))))

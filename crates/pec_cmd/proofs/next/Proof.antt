@@ -21,21 +21,10 @@ kept s Trim k = refl
 kept s ColorChange k = absurd (miss (2 ∷ 4 ∷ []) 3 tt k)
 kept s End k = refl
 
-returns : tie.Need-returns
-unfolding pecNext
-returns c = rw (c .enum-told .given .1)
-
-returns-2 : tie.Need-returns-2
-unfolding pecNext
-returns-2 c = rw (c .enum-told2 .given .1)
-
-returns-3 : tie.Need-returns-3
-unfolding pecNext
-returns-3 c = rw (c .before .enum-told3 .given .1)
-
 pub next-spec : {M : Type 1} → statement M
+unfolding pecNext
 next-spec =
     tie.close
     (tie.spec
-    (λ c. search needs) (λ c. search needs) (λ c. search needs) returns returns-2 returns-3
-    (λ c. kept _ (c .before .args .op) (c .match .keys4)))
+    (λ c. search needs) (λ c. search needs) (λ c. search needs) (λ c. rw (c .enum-told .given .1)) (λ c. rw (c .enum-told2 .given .1))
+    (λ c. rw (c .before .enum-told3 .given .1)) (λ c. kept _ (c .before .args .op) (c .match .keys4)))

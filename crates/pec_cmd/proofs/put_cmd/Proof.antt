@@ -18,14 +18,6 @@ put-jump-requires c κs =
     let s = c .before .before .before .before in
     rw (toZ-ofZ (s .fits .dx), toZ-ofZ (s .fits .dy)) (s .pre .0, rw (c .before .enum-told2 .given .1) at (s .pre .1))
 
-put-change-requires : tie.Need-put-change-requires
-unfolding pecCmd
-put-change-requires c κs = rw (c .before .enum-told4 .given .1) at (c .before .before .before .before .pre .1)
-
-put-requires : tie.Need-put-requires
-unfolding pecCmd
-put-requires c κs = rw (c .before .enum-told5 .given .1) at (c .before .before .before .before .pre .1)
-
 returns : tie.Need-returns
 returns c =
     let s = c .before .before .before .before .before .before .before in
@@ -36,22 +28,14 @@ returns-2 c =
     let s = c .before .before .before .before .before .before .before in
     rw (c .before .before .before .before .enum-told2 .given .1) (rw (toZ-ofZ (s .fits .dx), toZ-ofZ (s .fits .dy)) at (c .before .before .put-jump .ensures))
 
-returns-3 : tie.Need-returns-3
-unfolding pecCmd
-returns-3 c = let s = c .before .before .before in rw (c .enum-told3 .given .1) (put-nothing (now (s .args .out)) (s .args .at))
-
-returns-4 : tie.Need-returns-4
-unfolding pecCmd
-returns-4 c = rw (c .before .before .before .before .enum-told4 .given .1) (c .before .before .put-change .ensures)
-
-returns-5 : tie.Need-returns-5
-unfolding pecCmd
-returns-5 c = rw (c .before .before .before .before .enum-told5 .given .1) (c .before .before .put .ensures)
-
 pub put-cmd-spec : {M : Type 1} → statement M
+unfolding pecCmd
 put-cmd-spec =
     tie.close
     (tie.spec
-    (λ c. search needs) put-stitch-requires (λ c. search needs) put-jump-requires (λ c. search needs)
-    (λ c. search needs) put-change-requires (λ c. search needs) put-requires (λ c. search needs) returns
-    (λ c. search needs) returns-2 returns-3 (λ c. search needs) returns-4 (λ c. search needs) returns-5)
+    (λ c. search needs) put-stitch-requires (λ c. search needs) put-jump-requires (λ c. search needs) (λ c. search needs)
+    (λ c κs. rw (c .before .enum-told4 .given .1) at (c .before .before .before .before .pre .1)) (λ c. search needs)
+    (λ c κs. rw (c .before .enum-told5 .given .1) at (c .before .before .before .before .pre .1)) (λ c. search needs) returns (λ c. search needs) returns-2
+    (λ c. let s = c .before .before .before in rw (c .enum-told3 .given .1) (put-nothing (now (s .args .out)) (s .args .at))) (λ c. search needs)
+    (λ c. rw (c .before .before .before .before .enum-told4 .given .1) (c .before .before .put-change .ensures)) (λ c. search needs)
+    (λ c. rw (c .before .before .before .before .enum-told5 .given .1) (c .before .before .put .ensures)))

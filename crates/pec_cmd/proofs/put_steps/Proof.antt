@@ -5,7 +5,7 @@ use native.Mathlib.Omega.{arith}
 use lib.ListN.{length-append}
 use mir.Facts.{toZ-ofZ}
 use Rattle.rules.specs.Pec.{pecValue}
-use Rattle.laws.specs.Buffers.{put-put, put-length, put-as}
+use Rattle.laws.specs.Buffers.{put-put, put-as}
 use Rattle.pec_cmd.proofs.Values.{short, short-abs, both-short, both-bytes}
 use borrow.Author.Needs.{needs}
 use Rattle.pec_cmd.proofs.put_steps.Statement.{statement}
@@ -18,21 +18,6 @@ both c =
     let long = rw (toZ-ofZ (s .fits .dx), toZ-ofZ (s .fits .dy)) at (c .before .steps-len .ensures .0) in
     both-short (s .args .dx) (s .args .dy) (sym long ∙ c .if1 .taken)
 
-low7-requires : tie.Need-low7-requires
-low7-requires c κs =
-    let s = c .before .before .before .before in
-    rw (toZ-ofZ (s .fits .dx)) (short-abs (s .args .dx) (both (c .before) .0))
-
-low7-requires-2 : tie.Need-low7-requires-2
-low7-requires-2 c κs =
-    let s = c .before .before .before .before .before in
-    rw (toZ-ofZ (s .fits .dy)) (short-abs (s .args .dy) (both (c .before .before) .1))
-
-put2-requires : tie.Need-put2-requires
-put2-requires c κs =
-    let s = c .before .before .before .before .before .before in
-    rw (both-bytes (s .args .dx) (s .args .dy) (both (c .before .before .before))) at (s .pre .1)
-
 returns : tie.Need-returns
 returns c =
     let low = c .before .before .before in
@@ -40,16 +25,11 @@ returns c =
     let e = both-bytes (s .args .dx) (s .args .dy) (both (low .before .before .before)) in
     put-as (c .before .before .put2 .ensures) (rw (low .before .low7 .ensures, low .low72 .ensures, toZ-ofZ (s .fits .dx), toZ-ofZ (s .fits .dy), e))
 
-pec-value-requires : tie.Need-pec-value-requires
-pec-value-requires c κs =
-    let s = c .before .before .before .before in
-    rw (toZ-ofZ (s .fits .dx)) (s .pre .0 .x, omega (arith, length-append (pecValue (s .args .dx)) (pecValue (s .args .dy)), s .pre .1))
-
 pec-value-requires-2 : tie.Need-pec-value-requires-2
 pec-value-requires-2 c κs =
     let s = c .before .before .before .before .before .before .before .before in
     let q = rw (toZ-ofZ (s .fits .dx)) at (c .before .before .before .pec-value .ensures) in
-    rw (toZ-ofZ (s .fits .dy)) (s .pre .0 .y, omega (arith, length-append (pecValue (s .args .dx)) (pecValue (s .args .dy)), s .pre .1, q .ends, put-length q))
+    rw (toZ-ofZ (s .fits .dy)) (s .pre .0 .y, omega (arith, length-append (pecValue (s .args .dx)) (pecValue (s .args .dy)), s .pre .1, q .ends, q .same))
 
 returns-2 : tie.Need-returns-2
 returns-2 c =
@@ -62,5 +42,12 @@ pub put-steps-spec : {M : Type 1} → statement M
 put-steps-spec =
     tie.close
     (tie.spec
-    (λ c κs. search needs) low7-requires low7-requires-2 put2-requires (λ c. search needs) returns
-    pec-value-requires pec-value-requires-2 (λ c. search needs) returns-2)
+    (λ c κs. search needs)
+    (λ c κs. let s = c .before .before .before .before in rw (toZ-ofZ (s .fits .dx)) (short-abs (s .args .dx) (both (c .before) .0)))
+    (λ c κs. let s = c .before .before .before .before .before in rw (toZ-ofZ (s .fits .dy)) (short-abs (s .args .dy) (both (c .before .before) .1)))
+    (λ c κs. let s = c .before .before .before .before .before .before in
+    rw (both-bytes (s .args .dx) (s .args .dy) (both (c .before .before .before))) at (s .pre .1))
+    (λ c. search needs) returns
+    (λ c κs. let s = c .before .before .before .before in
+    rw (toZ-ofZ (s .fits .dx)) (s .pre .0 .x, omega (arith, length-append (pecValue (s .args .dx)) (pecValue (s .args .dy)), s .pre .1)))
+    pec-value-requires-2 (λ c. search needs) returns-2)

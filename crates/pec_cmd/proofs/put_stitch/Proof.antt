@@ -2,7 +2,7 @@
 use native.Mathlib.Omega.{arith}
 use mir.Facts.{toZ-ofZ}
 use Rattle.rules.specs.Pec.{pecCmd}
-use Rattle.laws.specs.Buffers.{put-put, put-length}
+use Rattle.laws.specs.Buffers.{put-put}
 use Rattle.pec_cmd.specs.States.{stateOf}
 use Rattle.pec_cmd.proofs.Values.{stitch-long}
 use borrow.Author.Needs.{needs}
@@ -21,7 +21,7 @@ pec-value-requires c κs =
     let s = put .before .before .before .before in
     let long = stitch-long (stateOf (s .args .s)) (s .args .dx) (s .args .dy) in
     let p = rw (put .before .before .pauses .ensures, toZ-ofZ (s .fits .dx), toZ-ofZ (s .fits .dy)) at (put .put-pause .ensures) in
-    rw (toZ-ofZ (s .fits .dx)) (s .pre .0 .x, omega (arith, long, s .pre .1, p .ends, put-length p))
+    rw (toZ-ofZ (s .fits .dx)) (s .pre .0 .x, omega (arith, long, s .pre .1, p .ends, p .same))
 
 pec-value-requires-2 : tie.Need-pec-value-requires-2
 pec-value-requires-2 c κs =
@@ -30,7 +30,7 @@ pec-value-requires-2 c κs =
     let long = stitch-long (stateOf (s .args .s)) (s .args .dx) (s .args .dy) in
     let p = rw (put .before .before .pauses .ensures, toZ-ofZ (s .fits .dx), toZ-ofZ (s .fits .dy)) at (put .put-pause .ensures) in
     let q = rw (toZ-ofZ (s .fits .dx)) at (c .before .before .before .pec-value .ensures) in
-    rw (toZ-ofZ (s .fits .dy)) (s .pre .0 .y, omega (arith, long, s .pre .1, p .ends, put-length p, q .ends, put-length q))
+    rw (toZ-ofZ (s .fits .dy)) (s .pre .0 .y, omega (arith, long, s .pre .1, p .ends, p .same, q .ends, q .same))
 
 returns : tie.Need-returns
 unfolding pecCmd

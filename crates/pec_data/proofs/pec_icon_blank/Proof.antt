@@ -1,6 +1,6 @@
 -- `pec_icon_blank` meets its contract: what the loop and the last stores make of a row of zeros is computed. Assumes nothing.
 use Prim.Native.Nat.{ℕ, zero, suc, _+_, _-_, _*_, _/_, _≤_}
-use mathlib.Core.Path.{_≡_, refl, ap, _∙_}
+use mathlib.Core.Path.{_≡_, ap, _∙_}
 use mathlib.Core.List.{List}
 use native.Mathlib.Omega.{arith}
 use borrow.Author.Needs.{needs}
@@ -31,10 +31,6 @@ Inv-loop icon₀ row₀ icon row = (2 ≤ row) × ((row ≤ 36) × (icon ≡ row
 abbrev μ-loop : tie.MeasureT-loop
 μ-loop icon₀ row₀ icon row = 36 - row
 
-loop-holds : tie.Need-loop-holds Inv-loop μ-loop
-unfolding rows
-loop-holds c = (omega arith, (omega arith, refl))
-
 loop-again : tie.Need-loop-again Inv-loop μ-loop
 loop-again c =
     let l = c .before .before .loop in
@@ -48,9 +44,10 @@ returns c =
     c .closed .ensures ∙ ap (λ (s : List ℕ). sets (sets s 6 border) 216 border) (l .inv .1 .1 ∙ ap rows e)
 
 pub pec-icon-blank-spec : {M : Type 1} → statement M
+unfolding blankIcon edgeOf joined rows
 pec-icon-blank-spec =
     tie.close
     (tie.spec
-    Inv-loop μ-loop loop-holds (λ c κs. search needs) (λ c. search needs) (λ c. search needs) (λ c. search needs)
-    (λ c. search needs) (λ c. search needs) (λ c. search needs) (λ c. search needs) (λ c. search needs) loop-again
-    (λ c κs. search needs) returns)
+    Inv-loop μ-loop (λ c. search needs) (λ c κs. search needs) (λ c. search needs) (λ c. search needs)
+    (λ c. search needs) (λ c. search needs) (λ c. search needs) (λ c. search needs) (λ c. search needs)
+    (λ c. search needs) loop-again (λ c κs. search needs) returns)

@@ -1,13 +1,9 @@
 -- The chart of the code is the chart of the definitions, at every entry. Assumes nothing.
-use mathlib.Core.Path.{refl}
 use Rattle.rules.specs.Charts.{pecChart}
 use borrow.Author.Needs.{needs}
 use Rattle.pec_data.proofs.pec_thread.Statement.{statement}
 use Rattle.pec_data.proofs.pec_thread.Tie as tie
 
-returns : tie.Need-returns
-unfolding pecChart
-returns c = refl
-
 pub pec-thread-spec : {M : Type 1} → statement M
-pec-thread-spec = tie.close (tie.spec (λ c. search needs) (λ c. search needs) returns)
+unfolding pecChart
+pec-thread-spec = tie.close (tie.spec (λ c. search needs) (λ c. search needs) (λ c. search needs))

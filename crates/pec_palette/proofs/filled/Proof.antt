@@ -7,21 +7,16 @@ use borrow.Author.Needs.{needs}
 use Rattle.pec_palette.proofs.filled.Statement.{statement}
 use Rattle.pec_palette.proofs.filled.Tie as tie
 
-returns : tie.Need-returns
-unfolding setAt
-returns c = rw (c .enum-told .given .1)
-
 returns-2 : tie.Need-returns-2
 unfolding setAt
 returns-2 c =
     let a = c .before .before .before .before .args in
     rw (c .before .before .found .given .1) (sym (set-out (a .entries) _ (a .s) (omega arith)))
 
-returns-3 : tie.Need-returns-3
-unfolding setAt
-returns-3 c = rw (c .before .before .found .given .1)
-
 pub filled-spec : {M : Type 1} → statement M
+unfolding setAt
 filled-spec =
     tie.close
-    (tie.spec (λ c. search needs) (λ c. search needs) returns returns-2 (λ c. search needs) (λ c. search needs) returns-3)
+    (tie.spec
+    (λ c. search needs) (λ c. search needs) (λ c. search needs) returns-2 (λ c. search needs) (λ c. search needs)
+    (λ c. rw (c .before .before .found .given .1)))

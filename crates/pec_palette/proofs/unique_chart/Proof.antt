@@ -16,15 +16,6 @@ Inv-loop threads n free₀ chart₀ i₀ free chart i = Giving (threadsOf thread
 abbrev μ-loop : tie.MeasureT-loop
 μ-loop threads n free₀ chart₀ i₀ free chart i = n - i
 
-loop-holds : tie.Need-loop-holds Inv-loop μ-loop
-loop-holds c = rw (c .pec-palette .ensures) (giving-start (threadsOf (now (c .before .before .args .threads))))
-
-thread-at-requires : tie.Need-thread-at-requires Inv-loop μ-loop
-thread-at-requires c κs = omega (arith, length-threads (now (c .before .before .before .before .args .threads)))
-
-new-entry-requires : tie.Need-new-entry-requires Inv-loop μ-loop
-new-entry-requires c κs = omega (arith, length-threads (now (c .before .before .before .before .before .args .threads)))
-
 loop-again : tie.Need-loop-again Inv-loop μ-loop
 loop-again c =
     let l = c .before .before .before .before .before .loop in
@@ -44,5 +35,9 @@ pub unique-chart-spec : {M : Type 1} → statement M
 unique-chart-spec =
     tie.close
     (tie.spec
-    Inv-loop μ-loop (λ c κs. tt) loop-holds thread-at-requires new-entry-requires (λ c κs. tt) (λ c κs. tt) (λ c. omega arith)
+    Inv-loop μ-loop (λ c κs. tt)
+    (λ c. rw (c .pec-palette .ensures) (giving-start (threadsOf (now (c .before .before .args .threads)))))
+    (λ c κs. omega (arith, length-threads (now (c .before .before .before .before .args .threads))))
+    (λ c κs. omega (arith, length-threads (now (c .before .before .before .before .before .args .threads))))
+    (λ c κs. tt) (λ c κs. tt) (λ c. omega arith)
     (λ c. omega arith) loop-again returns)

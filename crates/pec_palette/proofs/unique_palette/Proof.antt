@@ -26,9 +26,6 @@ loop-holds c =
     let ts = threadsOf (now (a .threads)) in
     rw (palette-is ts (c .unique-chart .ensures)) (writing-start (now (a .out)) (a .at) (uniquePalette ts) (omega (arith, length-palette ts, start .pre)))
 
-thread-at-requires : tie.Need-thread-at-requires Inv-loop μ-loop
-thread-at-requires c κs = omega (arith, length-threads (now (c .before .before .before .before .before .before .args .threads)))
-
 -- the turn's byte comes next
 turn : (c : tie.After-entry-in Inv-loop μ-loop)
     → (let head = c .before .before .before .before in
@@ -39,9 +36,6 @@ turn c =
     let head = c .before .before .before .before in
     let s = now (head .before .before .before .before .args .threads) in
     entries-more (head .before .unique-chart .result) (threadsOf s) (head .loop .i) (omega (arith, length-threads s)) (c .before .thread-at .ensures) (c .entry-in .ensures)
-
-put-requires : tie.Need-put-requires Inv-loop μ-loop
-put-requires c κs = writing-room (c .entry-in .result ∷ []) _ (c .before .before .before .before .loop .inv) (turn c)
 
 loop-again : tie.Need-loop-again Inv-loop μ-loop
 loop-again c =
@@ -58,5 +52,9 @@ pub unique-palette-spec : {M : Type 1} → statement M
 unique-palette-spec =
     tie.close
     (tie.spec
-    Inv-loop μ-loop (λ c κs. tt) loop-holds thread-at-requires (λ c κs. tt) put-requires (λ c. omega arith) (λ c. omega arith) loop-again
+    Inv-loop μ-loop (λ c κs. tt) loop-holds
+    (λ c κs. omega (arith, length-threads (now (c .before .before .before .before .before .before .args .threads))))
+    (λ c κs. tt)
+    (λ c κs. writing-room (c .entry-in .result ∷ []) _ (c .before .before .before .before .loop .inv) (turn c))
+    (λ c. omega arith) (λ c. omega arith) loop-again
     (λ c. c .before .loop .inv .same) returns)

@@ -3,7 +3,7 @@ use mathlib.Core.Path.{sym}
 use native.Mathlib.Omega.{arith}
 use denote.Ref.{now}
 use Rattle.rules.specs.Lists.{threadsOf}
-use Rattle.laws.specs.Buffers.{put-as, put-put, put-length}
+use Rattle.laws.specs.Buffers.{put-as, put-put}
 use Rattle.laws.specs.Threads.{length-threads}
 use Rattle.pec_part.proofs.Whole.{length-label, length-entries, header-as}
 use borrow.Author.Needs.{needs}
@@ -14,7 +14,7 @@ put-colors-requires : tie.Need-put-colors-requires
 put-colors-requires c κs =
     let put-label = c .before .before .before .put-label in let start = c .before .before .before .before .before .before .before .before in
     let a = start .args in
-    (start .pre .0, omega (arith, start .pre, put-length (put-label .ensures), length-label (now (a .name)), length-threads (now (a .threads))))
+    (start .pre .0, omega (arith, start .pre, put-label .ensures .same, length-label (now (a .name)), length-threads (now (a .threads))))
 
 put-fill-requires : tie.Need-put-fill-requires
 put-fill-requires c κs =
@@ -25,8 +25,8 @@ put-fill-requires c κs =
       omega (
         arith,
         start .pre,
-        put-length (put-label .ensures),
-        put-length (put-colors .ensures),
+        put-label .ensures .same,
+        put-colors .ensures .same,
         length-label (now (a .name)),
         length-entries (threadsOf (now (a .threads))),
         length-threads (now (a .threads)),

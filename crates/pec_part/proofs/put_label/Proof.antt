@@ -1,6 +1,6 @@
 -- The parts in a row; every byte is from 0 on, so of the name the same bytes stay as in its definition.
 use native.Mathlib.Omega.{arith}
-use Rattle.laws.specs.Buffers.{put-put, put-length, put-nothing}
+use Rattle.laws.specs.Buffers.{put-put, put-nothing}
 use denote.Ref.{now}
 use lib.Dec.{leb·zero}
 use Rattle.rules.specs.Vocabulary.{joined}
@@ -15,7 +15,7 @@ unfolding pecName
 put-requires c κs =
     let put-name = c .before .before .before .put-name in let put3 = c .before .before .before .before .before .before .before .put3 in
     let start = c .before .before .before .before .before .before .before .before .before .before .before in
-    omega (arith, put-length (put3 .ensures), put-length (put-name .ensures), simp leb·zero at (put-name .ensures .ends), length-name (now (start .args .name)))
+    omega (arith, put3 .ensures .same, put-name .ensures .same, simp leb·zero at (put-name .ensures .ends), length-name (now (start .args .name)))
 
 put-times-requires : tie.Need-put-times-requires
 unfolding pecName
@@ -23,7 +23,7 @@ put-times-requires c κs =
     let put = c .before .before .before .put in let put-name = c .before .before .before .before .before .before .before .put-name in
     let at-put3 = c .before .before .before .before .before .before .before .before .before .before .before in let put3 = at-put3 .put3 in
     let start = at-put3 .before .before .before .before in
-    omega (arith, put-length (put3 .ensures), put-length (put-name .ensures), simp leb·zero at (put-name .ensures .ends), put-length (put .ensures), length-name (now (start .args .name)))
+    omega (arith, put3 .ensures .same, put-name .ensures .same, simp leb·zero at (put-name .ensures .ends), put .ensures .same, length-name (now (start .args .name)))
 
 put4-requires : tie.Need-put4-requires
 unfolding pecName
@@ -34,11 +34,11 @@ put4-requires c κs =
     let start = at-put-name .before .before .before .before .before .before .before .before in
     omega (
       arith,
-      put-length (put3 .ensures),
-      put-length (put-name .ensures),
+      put3 .ensures .same,
+      put-name .ensures .same,
       simp leb·zero at (put-name .ensures .ends),
-      put-length (put .ensures),
-      put-length (put-times .ensures),
+      put .ensures .same,
+      put-times .ensures .same,
       length-name (now (start .args .name)),
     )
 

@@ -3,18 +3,11 @@ use native.Mathlib.Omega.{arith}
 use denote.Ref.{now}
 use Rattle.rules.specs.Lists.{commands, threadsOf}
 use Rattle.rules.specs.Pec.{pecFile}
-use Rattle.laws.specs.Buffers.{put-put, put-length}
+use Rattle.laws.specs.Buffers.{put-put}
 use Rattle.laws.specs.Lengths.{pec-length}
 use borrow.Author.Needs.{needs}
 use Rattle.pes.proofs.put_pec_file.Statement.{statement}
 use Rattle.pes.proofs.put_pec_file.Tie as tie
-
-put-text-requires : tie.Need-put-text-requires
-put-text-requires c κs =
-    let a = c .before .before .before .before .before .before .args in
-    let cs = commands (now (a .xs)) (now (a .ys)) (now (a .kinds)) in
-    let ts = threadsOf (now (a .threads)) in
-    omega (arith, pec-length (now (a .name)) cs ts, c .before .before .before .before .before .before .pre .1 .1)
 
 write-pec-requires : tie.Need-write-pec-requires
 write-pec-requires c κs =
@@ -24,13 +17,15 @@ write-pec-requires c κs =
     let cs = commands (now (a .xs)) (now (a .ys)) (now (a .kinds)) in
     let ts = threadsOf (now (a .threads)) in
     let g = start .pre .1 .0 in
-    (start .pre .0, ((g .long, (g .few, g .steps)), (g .bytes, omega (arith, pec-length (now (a .name)) cs ts, put-length (put-text .ensures), start .pre .1 .1))))
+    (start .pre .0, ((g .long, (g .few, g .steps)), (g .bytes, omega (arith, pec-length (now (a .name)) cs ts, put-text .ensures .same, start .pre .1 .1))))
 
 returns : tie.Need-returns
 unfolding pecFile
 returns c = put-put (c .before .before .before .before .before .before .put-text .ensures) (c .before .before .write-pec .ensures)
 
 pub put-pec-file-spec : {M : Type 1} → statement M
+unfolding pecFile
 put-pec-file-spec =
     tie.close
-    (tie.spec (λ c. search needs) put-text-requires write-pec-requires (λ c. search needs) returns)
+    (tie.spec
+    (λ c. search needs) (λ c κs. search needs) write-pec-requires (λ c. search needs) returns)

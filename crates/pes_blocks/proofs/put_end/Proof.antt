@@ -4,17 +4,10 @@ use Rattle.rules.specs.Vocabulary.{little, joined}
 use Rattle.rules.specs.Lists.{commands, threadsOf}
 use Rattle.rules.specs.Pes.{shorts}
 use Rattle.laws.specs.Buffers.{put-put, put-nothing}
-use Rattle.pes_blocks.proofs.Whole.{room-count, room-log, room-zeros}
+use Rattle.pes_blocks.proofs.Whole.{room-log, room-zeros}
 use borrow.Author.Needs.{needs}
 use Rattle.pes_blocks.proofs.put_end.Statement.{statement}
 use Rattle.pes_blocks.proofs.put_end.Tie as tie
-
-put-short-requires : tie.Need-put-short-requires
-put-short-requires c κs =
-    let a = c .before .before .before .before .args in
-    let cs = commands (now (a .xs)) (now (a .ys)) (now (a .kinds)) in
-    let ts = threadsOf (now (a .threads)) in
-    room-count (a .n) ts cs (now (a .out)) (a .at) (c .before .before .before .before .pre .1 .1)
 
 put-log-requires : tie.Need-put-log-requires
 put-log-requires c κs =
@@ -41,5 +34,8 @@ returns c =
     put-put (put-short .ensures) (put-put (put-log .ensures) (put-put (c .before .before .put-times .ensures) (put-nothing _ _)))
 
 pub put-end-spec : {M : Type 1} → statement M
+unfolding joined little shorts
 put-end-spec =
-    tie.close (tie.spec put-short-requires put-log-requires put-times-requires (λ c. search needs) returns)
+    tie.close
+    (tie.spec
+    (λ c κs. search needs) put-log-requires put-times-requires (λ c. search needs) returns)

@@ -1,7 +1,7 @@
 -- The parts in a row.
 use native.Mathlib.Omega.{arith}
 use Rattle.rules.specs.Vocabulary.{joined}
-use Rattle.laws.specs.Buffers.{put-put, put-length, put-nothing}
+use Rattle.laws.specs.Buffers.{put-put, put-nothing}
 use Rattle.pes_blocks.proofs.Whole.{length-emb, length-fields, length-sizes}
 use borrow.Author.Needs.{needs}
 use Rattle.pes_blocks.proofs.put_frame.Statement.{statement}
@@ -10,13 +10,13 @@ use Rattle.pes_blocks.proofs.put_frame.Tie as tie
 put-matrix-requires : tie.Need-put-matrix-requires
 put-matrix-requires c κs =
     let put-emb = c .before .before .before .put-emb in let start = c .before .before .before .before .before .before in
-    (start .pre .0, omega (arith, put-length (put-emb .ensures), length-emb))
+    (start .pre .0, omega (arith, put-emb .ensures .same, length-emb))
 
 put-sizes-requires : tie.Need-put-sizes-requires
 put-sizes-requires c κs =
     let put-matrix = c .before .before .before .put-matrix in let put-emb = c .before .before .before .before .before .before .before .put-emb in
     let start = c .before .before .before .before .before .before .before .before .before .before in
-    omega (arith, put-length (put-emb .ensures), length-emb, put-length (put-matrix .ensures), length-fields (start .args .w) (start .args .h))
+    omega (arith, put-emb .ensures .same, length-emb, put-matrix .ensures .same, length-fields (start .args .w) (start .args .h))
 
 put-seg-requires : tie.Need-put-seg-requires
 put-seg-requires c κs =
@@ -25,11 +25,11 @@ put-seg-requires c κs =
     let put-emb = at-put-emb .put-emb in let start = at-put-emb .before .before .before in
     omega (
       arith,
-      put-length (put-emb .ensures),
+      put-emb .ensures .same,
       length-emb,
-      put-length (put-matrix .ensures),
+      put-matrix .ensures .same,
       length-fields (start .args .w) (start .args .h),
-      put-length (put-sizes .ensures),
+      put-sizes .ensures .same,
       length-sizes (start .args .w) (start .args .h),
     )
 

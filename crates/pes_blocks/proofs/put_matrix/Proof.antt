@@ -3,30 +3,11 @@ use mathlib.Core.Path.{ap}
 use native.Mathlib.Omega.{arith}
 use Rattle.rules.specs.Vocabulary.{little, joined}
 use Rattle.rules.specs.Pes.{matrixField}
-use Rattle.laws.specs.Buffers.{put-as, put-put, put-length, put-nothing}
+use Rattle.laws.specs.Buffers.{put-as, put-put, put-nothing}
 use Rattle.pes_blocks.proofs.Values.{minus-fits, minus-is, minus-small, plus-is, plus-small}
 use borrow.Author.Needs.{needs}
 use Rattle.pes_blocks.proofs.put_matrix.Statement.{statement}
 use Rattle.pes_blocks.proofs.put_matrix.Tie as tie
-
-put-field-requires-2 : tie.Need-put-field-requires-2
-unfolding matrixField little
-put-field-requires-2 c κs = (omega arith, omega (arith, put-length (c .before .before .before .put-field .ensures)))
-
-put-field-requires-3 : tie.Need-put-field-requires-3
-unfolding matrixField little
-put-field-requires-3 c κs =
-    let put-field2 = c .before .before .before .put-field2 in let put-field = c .before .before .before .before .before .before .before .put-field in
-    (omega arith, omega (arith, put-length (put-field .ensures), put-length (put-field2 .ensures)))
-
-put-field-requires-4 : tie.Need-put-field-requires-4
-unfolding matrixField little
-put-field-requires-4 c κs =
-    let put-field3 = c .before .before .before .put-field3 in
-    let put-field2 = c .before .before .before .before .before .before .before .put-field2 in
-    let at-put-field = c .before .before .before .before .before .before .before .before .before .before .before in
-    let put-field = at-put-field .put-field in
-    (omega arith, omega (arith, put-length (put-field .ensures), put-length (put-field2 .ensures), put-length (put-field3 .ensures)))
 
 sub-put-field : tie.Need-sub-put-field
 sub-put-field c =
@@ -42,7 +23,7 @@ put-field-requires-5 c κs =
     let at-put-field2 = c .before .before .before .before .before .before .before .before .before .before .before in
     let put-field2 = at-put-field2 .put-field2 in let put-field = at-put-field2 .before .before .before .before .put-field in
     let start = at-put-field2 .before .before .before .before .before .before .before in
-    (minus-small (start .pre .0 .0), omega (arith, put-length (put-field .ensures), put-length (put-field2 .ensures), put-length (put-field3 .ensures), put-length (put-field4 .ensures)))
+    (minus-small (start .pre .0 .0), omega (arith, put-field .ensures .same, put-field2 .ensures .same, put-field3 .ensures .same, put-field4 .ensures .same))
 
 put-field-requires-6 : tie.Need-put-field-requires-6
 unfolding matrixField little
@@ -56,11 +37,11 @@ put-field-requires-6 c κs =
       plus-small (start .pre .0 .1),
       omega (
         arith,
-        put-length (put-field .ensures),
-        put-length (put-field2 .ensures),
-        put-length (put-field3 .ensures),
-        put-length (put-field4 .ensures),
-        put-length (put-field5 .ensures),
+        put-field .ensures .same,
+        put-field2 .ensures .same,
+        put-field3 .ensures .same,
+        put-field4 .ensures .same,
+        put-field5 .ensures .same,
       ),
     )
 
@@ -78,9 +59,10 @@ returns c =
     put-put (put-field .ensures) (put-put (put-field2 .ensures) (put-put (put-field3 .ensures) (put-put (put-field4 .ensures) (put-put x (put-put y (put-nothing _ _))))))
 
 pub put-matrix-spec : {M : Type 1} → statement M
+unfolding joined little matrixField
 put-matrix-spec =
     tie.close
     (tie.spec
-    (λ c κs. search needs) put-field-requires-2 put-field-requires-3 put-field-requires-4 (λ c. search needs)
+    (λ c κs. search needs) (λ c κs. search needs) (λ c κs. search needs) (λ c κs. search needs) (λ c. search needs)
     sub-put-field put-field-requires-5 (λ c. search needs) (λ c. search needs) put-field-requires-6
     (λ c. search needs) returns)

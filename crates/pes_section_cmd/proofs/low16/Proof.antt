@@ -5,14 +5,9 @@ use borrow.Author.Needs.{needs}
 use Rattle.pes_section_cmd.proofs.low16.Statement.{statement}
 use Rattle.pes_section_cmd.proofs.low16.Tie as tie
 
-add-result : tie.Need-add-result
-add-result c = over-fits 15 (omega arith) (c .fits .z) (omega (arith, c .pre))
-
-cast-result : tie.Need-cast-result
-cast-result c = over-cast 15 (omega arith) (c .fits .z) (omega (arith, c .pre))
-
-returns : tie.Need-returns
-returns c = over-low 15 (omega arith) (c .fits .z) (omega (arith, c .pre))
-
 pub low16-spec : {M : Type 1} → statement M
-low16-spec = tie.close (tie.spec add-result cast-result (λ c. search needs) returns)
+low16-spec = tie.close (tie.spec
+    (λ c. over-fits 15 (omega arith) (c .fits .z) (omega (arith, c .pre)))
+    (λ c. over-cast 15 (omega arith) (c .fits .z) (omega (arith, c .pre)))
+    (λ c. search needs)
+    (λ c. over-low 15 (omega arith) (c .fits .z) (omega (arith, c .pre))))

@@ -1,39 +1,19 @@
 -- Four puts in a row are one.
+use Prim.Native.Nat.{_+_, _≤_}
 use native.Mathlib.Omega.{arith}
-use Rattle.rules.specs.Vocabulary.{joined}
+use denote.Ref.{now}
+use lib.ListN.{length}
+use Rattle.rules.specs.Vocabulary.{little, joined}
 use Rattle.rules.specs.Pes.{pesOpen}
-use Rattle.laws.specs.Buffers.{put-put, put-length, put-nothing}
-use Rattle.laws.specs.Little.{length-little}
-use Rattle.pes_section_cmd.specs.States.{stateOf}
-use Rattle.pes_section_cmd.proofs.Lengths.{open-long}
+use Rattle.laws.specs.Buffers.{put-put, put-nothing}
+use Rattle.pes_section_cmd.proofs.Lengths.{gap, open-long}
 use borrow.Author.Needs.{needs}
 use Rattle.pes_section_cmd.proofs.put_open.Statement.{statement}
 use Rattle.pes_section_cmd.proofs.put_open.Tie as tie
 
-put-between-requires : tie.Need-put-between-requires
-put-between-requires c κs =
-    let s = c .before .before in
-    omega (arith, s .pre, open-long (stateOf (s .args .s)) (s .args .flag) (s .args .points))
-
-put-short-requires : tie.Need-put-short-requires
-put-short-requires c κs =
-    let s = c .before .before .before .before .before .before in
-    let p = c .before .before .before .put-between .ensures in
-    omega (arith, s .pre, open-long (stateOf (s .args .s)) (s .args .flag) (s .args .points), p .ends, put-length p)
-
-put-short-requires-2 : tie.Need-put-short-requires-2
-put-short-requires-2 c κs =
-    let s = c .before .before .before .before .before .before .before .before .before .before in
-    let p = put-put (c .before .before .before .before .before .before .before .put-between .ensures) (c .before .before .before .put-short .ensures) in
-    omega (arith, s .pre, open-long (stateOf (s .args .s)) (s .args .flag) (s .args .points), length-little 2 (s .args .flag), put-length p)
-
-put-short-requires-3 : tie.Need-put-short-requires-3
-put-short-requires-3 c κs =
-    let put-short2 = c .before .before .before .put-short2 in let put-short = c .before .before .before .before .before .before .before .put-short in
-    let at-put-between = c .before .before .before .before .before .before .before .before .before .before .before in
-    let put-between = at-put-between .put-between in let s = at-put-between .before .before .before in
-    let p = put-put (put-between .ensures) (put-put (put-short .ensures) (put-short2 .ensures)) in
-    omega (arith, s .pre, open-long (stateOf (s .args .s)) (s .args .flag) (s .args .points), length-little 2 (s .args .flag), length-little 2 (s .args .s .code), put-length p)
+-- the beginning has room
+room : (s : tie.Start) → s .args .at + (length (gap (s .args .s .sections)) + 6) ≤ length (now (s .args .out))
+room s = rw open-long at (s .pre)
 
 returns : tie.Need-returns
 unfolding pesOpen joined
@@ -44,7 +24,12 @@ returns c =
     (put-put (c .before .before .put-short3 .ensures) (put-nothing _ _))))
 
 pub put-open-spec : {M : Type 1} → statement M
+unfolding little
 put-open-spec =
     tie.close
     (tie.spec
-    put-between-requires put-short-requires put-short-requires-2 put-short-requires-3 (λ c. search needs) returns)
+    (λ c κs. omega (arith, room (c .before .before))) (λ c κs. omega (arith, room (c .before .before .before .before .before .before)))
+    (λ c κs. omega (arith, room (c .before .before .before .before .before .before .before .before .before .before)))
+    (λ c κs. let between = c .before .before .before .before .before .before .before .before .before .before .before in
+    omega (arith, room (between .before .before .before)))
+    (λ c. search needs) returns)

@@ -4,9 +4,6 @@ use Rattle.rules.specs.Pes.{pesStart}
 use Rattle.pes_section_cmd.proofs.start.Statement.{statement}
 use Rattle.pes_section_cmd.proofs.start.Tie as tie
 
-returns : tie.Need-returns
-unfolding pesStart
-returns c = rw (c .code-at .ensures)
-
 pub start-spec : {M : Type 1} → statement M
-start-spec = tie.close (tie.spec (λ c κs. search needs) returns)
+unfolding pesStart
+start-spec = tie.close (tie.spec (λ c κs. search needs) (λ c. rw (c .code-at .ensures)))

@@ -1,10 +1,11 @@
 -- The kinds before k are alike.
+use borrow.Author.Needs.{needs}
 use Prim.Native.Nat.{_+_, _-_, _≤_}
 use native.Mathlib.Omega.{arith}
 use borrow.Author.Tests.{not-false}
 use denote.Ref.{now}
 use Rattle.pes_sections.specs.Alike.{Alike}
-use Rattle.pes_sections.proofs.Alike.{alike-none, alike-join}
+use Rattle.pes_sections.proofs.Alike.{alike-join}
 use Rattle.pes_sections.proofs.alike_till.Statement.{statement}
 use Rattle.pes_sections.proofs.alike_till.Tie as tie
 
@@ -13,11 +14,6 @@ Inv-loop kinds kind i n k₀ k = (i ≤ k) × ((k ≤ n) × Alike kinds kind i k
 
 abbrev μ-loop : tie.MeasureT-loop
 μ-loop kinds kind i n k₀ k = n - k
-
-loop-holds : tie.Need-loop-holds Inv-loop μ-loop
-loop-holds c =
-    let s = c .before in
-    (omega arith, (s .pre .0, alike-none (now (s .args .kinds)) (s .args .kind) (s .args .i)))
 
 loop-again : tie.Need-loop-again Inv-loop μ-loop
 loop-again c =
@@ -30,5 +26,6 @@ pub alike-till-spec : {M : Type 1} → statement M
 alike-till-spec =
     tie.close
     (tie.spec
-    Inv-loop μ-loop loop-holds (λ c. omega arith) (λ c κs. omega arith) (λ c. c .before .before .before .loop .inv) (λ c. omega arith)
-    (λ c. omega arith) loop-again (λ c. c .before .loop .inv))
+    Inv-loop μ-loop (λ c. search needs) (λ c. omega arith) (λ c κs. omega arith)
+    (λ c. c .before .before .before .loop .inv) (λ c. omega arith) (λ c. omega arith) loop-again
+    (λ c. c .before .loop .inv))

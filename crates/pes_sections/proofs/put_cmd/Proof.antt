@@ -1,38 +1,17 @@
 -- A stitch and a jump write their bytes, the others none.
-use mathlib.Core.Path.{_≡_, refl, sym, _∙_}
-use mathlib.Core.Bool.{Bool}
-use mathlib.Core.List.{List, [], _∷_}
+use mathlib.Core.Path.{sym, _∙_}
 use native.Mathlib.Omega.{arith}
-use types.Run.{OneOf, miss}
-use denote.Enum.Declared.{tagOf}
 use denote.Ref.{now}
-use lib.IntN.{ℤ}
 use mir.Facts.{toZ-ofZ}
-use Rattle.rules.proofs.Op.{the-type}
-use Rattle.rules.specs.Pes.{PesState, pesCmd}
-use Rattle.rules.specs.declared.Cmd.{Cmd}
-use Rattle.rules.specs.declared.Op.{Op}
-use Rattle.rules.specs.declared.Op.the-variants.{Stitch, Jump, Trim, ColorChange, End}
-use Rattle.laws.specs.Buffers.{put-nothing, put-as}
+use Rattle.rules.specs.Pes.{pesCmd}
+use Rattle.laws.specs.Buffers.{Put, put-nothing}
 use Rattle.laws.specs.Listing.{length-commands}
+use Rattle.pes_section_cmd.proofs.Ops.{neither}
+use Rattle.pes_sections.specs.States.{cmdText}
 use Rattle.pes_sections.proofs.Points.{near-at}
 use borrow.Author.Needs.{needs}
 use Rattle.pes_sections.proofs.put_cmd.Statement.{statement}
 use Rattle.pes_sections.proofs.put_cmd.Tie as tie
-
--- a trim, a colour change or the end
-nothing : (left bottom : ℤ) (s : PesState) (new : Bool) (op : Op) (c : Cmd) (cs : List Cmd) → OneOf (2 ∷ 3 ∷ 4 ∷ []) (tagOf the-type op) → [] ≡ pesCmd left bottom s new op c cs
-unfolding pesCmd
-nothing left bottom s new Stitch c cs k = absurd (miss (2 ∷ 3 ∷ 4 ∷ []) 0 tt k)
-nothing left bottom s new Jump c cs k = absurd (miss (2 ∷ 3 ∷ 4 ∷ []) 1 tt k)
-nothing left bottom s new Trim c cs k = refl
-nothing left bottom s new ColorChange c cs k = refl
-nothing left bottom s new End c cs k = refl
-
-shared-slice-read-op-of : tie.Need-shared-slice-read-op-of
-shared-slice-read-op-of c =
-    let a = c .before .before .before .args in
-    omega (arith, length-commands (now (a .xs)) (now (a .ys)) (now (a .kinds)))
 
 put-stitch-requires : tie.Need-put-stitch-requires
 put-stitch-requires c κs =
@@ -61,13 +40,19 @@ returns-2 c =
     rw op (rw (toZ-ofZ (s .fits .left), toZ-ofZ (s .fits .bottom)) at (c .before .before .put-jump .ensures))
 
 returns-3 : tie.Need-returns-3
+unfolding pesCmd
 returns-3 c =
     let a = c .before .before .before .before .before .args in
-    rw (← c .before .op-of .ensures) (put-as (put-nothing (now (a .out)) (a .at)) (nothing _ _ _ _ (c .before .op-of .result) _ _ (c .match .keys3)))
+    let out = now (a .out) in
+    let none = put-nothing out (a .at) in
+    rw (← c .before .op-of .ensures)
+    (neither (λ op. Put out out (a .at) (a .at) (cmdText (a .left) (a .bottom) (a .s) (a .new) op (now (a .xs)) (now (a .ys)) (now (a .kinds)) (a .i)))
+    (c .before .op-of .result) none none none (c .match .keys3))
 
 pub put-cmd-spec : {M : Type 1} → statement M
 put-cmd-spec =
     tie.close
     (tie.spec
-    shared-slice-read-op-of (λ c κs. search needs) (λ c. search needs) put-stitch-requires (λ c. search needs)
+    (λ c. let a = c .before .before .before .args in omega (arith, length-commands (now (a .xs)) (now (a .ys)) (now (a .kinds))))
+    (λ c κs. search needs) (λ c. search needs) put-stitch-requires (λ c. search needs)
     put-jump-requires (λ c. search needs) returns (λ c. search needs) returns-2 returns-3)

@@ -1,12 +1,12 @@
 -- What is written is as far as the place; what comes is the places left.
-use Prim.Native.Nat.{_-_, _≤_, _<_}
+use Prim.Native.Nat.{_-_, _≤_}
 use mathlib.Core.Path.{refl}
 use native.Mathlib.Omega.{arith}
 use denote.Ref.{now}
 use lib.IntN.{pos}
-use lib.ListN.{length, getD}
+use lib.ListN.{getD}
 use mir.Syntax.{w32}
-use mir.Val.{toZ, ofZ}
+use mir.Val.{toZ}
 use mir.Facts.{toZ-ofZ}
 use Rattle.rules.specs.Lists.{commands}
 use Rattle.rules.specs.Pes.{pesPoint}
@@ -14,6 +14,7 @@ use Rattle.laws.specs.Buffers.{Writing, writing-start, writing-room, writing-mo
 use Rattle.laws.specs.Ints.{ret}
 use Rattle.laws.specs.Lengths.{length-point}
 use Rattle.laws.specs.Listing.{Listed, listed}
+use Rattle.pes_section_cmd.proofs.Distances.{back}
 use Rattle.pes_sections.specs.Alike.{points}
 use Rattle.pes_sections.specs.States.{placed}
 use Rattle.pes_sections.proofs.Points.{near-at, points-long, points-more, points-none}
@@ -47,31 +48,23 @@ here c = listed refl (omega arith)
 put-point-requires : tie.Need-put-point-requires Inv-loop μ-loop
 put-point-requires c κs =
     let a = c .before .before .before .before .before .before .before .args in
-    let left = toZ w32 (ofZ w32 (a .left)) in
-    let bottom = toZ w32 (ofZ w32 (a .bottom)) in
     let loop = c .before .before .before .before .loop in
-    let k = loop .k in
-    let px = getD (now (a .xs)) k (pos 0) in
-    let py = getD (now (a .ys)) k (pos 0) in
-    let x = ret w32 px (c .before .before .put-point-arg .given) in
-    let y = ret w32 py (c .before .put-point-arg2 .given) in
-    let l : k < length (commands (now (a .xs)) (now (a .ys)) (now (a .kinds))) = omega arith in
-    let e = points-more left bottom (now (a .xs)) (now (a .ys)) k (a .j) (omega arith) in
-    let room = writing-room (pesPoint left bottom px py) _ (loop .inv .1 .1) e in
-    rw (x, y) (near-at (now (a .xs)) (now (a .ys)) (now (a .kinds)) k (loop .inv .1 .0) l, omega (arith, room, length-point left bottom px py))
+    let px = getD (now (a .xs)) (loop .k) (pos 0) in
+    let py = getD (now (a .ys)) (loop .k) (pos 0) in
+    let e = points-more (back (a .left)) (back (a .bottom)) (now (a .xs)) (now (a .ys)) (loop .k) (a .j) (omega arith) in
+    let room = writing-room (pesPoint (back (a .left)) (back (a .bottom)) px py) _ (loop .inv .1 .1) e in
+    rw (ret w32 px (c .before .before .put-point-arg .given), ret w32 py (c .before .put-point-arg2 .given))
+    (near-at (now (a .xs)) (now (a .ys)) (now (a .kinds)) (loop .k) (loop .inv .1 .0) (omega arith), rw length-point at room)
 
 loop-again : tie.Need-loop-again Inv-loop μ-loop
 loop-again c =
-    let a = c .before .before .before .before .before .before .before .before .before .before .args in
-    let left = toZ w32 (ofZ w32 (a .left)) in
-    let bottom = toZ w32 (ofZ w32 (a .bottom)) in
-    let loop = c .before .before .before .before .before .before .before .loop in
-    let k = loop .k in
-    let x = ret w32 (getD (now (a .xs)) k (pos 0)) (c .before .before .before .before .before .put-point-arg .given) in
-    let y = ret w32 (getD (now (a .ys)) k (pos 0)) (c .before .before .before .before .put-point-arg2 .given) in
-    let e = points-more left bottom (now (a .xs)) (now (a .ys)) k (a .j) (omega arith) in
-    let put = rw (x, y) at (c .before .before .put-point .ensures) in
-    (omega arith, (loop .inv .1 .0, writing-more (loop .inv .1 .1) e put))
+    let read = c .before .before .before .before in
+    let loop = read .before .before .before .loop in
+    let a = read .before .before .before .before .before .before .args in
+    let x = ret w32 (getD (now (a .xs)) (loop .k) (pos 0)) (read .before .put-point-arg .given) in
+    let y = ret w32 (getD (now (a .ys)) (loop .k) (pos 0)) (read .put-point-arg2 .given) in
+    let e = points-more (back (a .left)) (back (a .bottom)) (now (a .xs)) (now (a .ys)) (loop .k) (a .j) (omega arith) in
+    (omega arith, (loop .inv .1 .0, writing-more (loop .inv .1 .1) e (rw (x, y) at (c .before .before .put-point .ensures))))
 
 returns : tie.Need-returns Inv-loop μ-loop
 returns c =

@@ -20,11 +20,6 @@ Inv-loop xs ys kinds from n kind i₀ i =
 abbrev μ-loop : tie.MeasureT-loop
 μ-loop xs ys kinds from n kind i₀ i = n - i
 
-shared-slice-read-kind : tie.Need-shared-slice-read-kind Inv-loop μ-loop
-shared-slice-read-kind c =
-    let a = c .before .before .before .args in
-    omega (arith, length-commands (now (a .xs)) (now (a .ys)) (now (a .kinds)))
-
 alike-till-requires : tie.Need-alike-till-requires Inv-loop μ-loop
 alike-till-requires c κs =
     let a = c .before .before .before .args in
@@ -39,11 +34,6 @@ loop-holds c =
     let w = c .alike-till .ensures in
     let kind = getD (now (a .kinds)) (a .from) 0 in
     (n, alike-run (now (a .xs)) (now (a .ys)) (now (a .kinds)) kind (end - a .from) (a .from) end (omega (arith, w .0)) (omega (arith, w .1 .0, n)) (w .1 .1))
-
-shared-slice-read-if1 : tie.Need-shared-slice-read-if1 Inv-loop μ-loop
-shared-slice-read-if1 c =
-    let a = c .before .before .before .before .before .before .before .args in
-    omega (arith, length-commands (now (a .xs)) (now (a .ys)) (now (a .kinds)))
 
 returns : tie.Need-returns Inv-loop μ-loop
 returns c =
@@ -70,5 +60,10 @@ pub run-end-spec : {M : Type 1} → statement M
 run-end-spec =
     tie.close
     (tie.spec
-    Inv-loop μ-loop (λ c κs. tt) shared-slice-read-kind alike-till-requires loop-holds shared-slice-read-if1 returns (λ c. omega arith)
+    Inv-loop μ-loop (λ c κs. tt)
+    (λ c. let a = c .before .before .before .args in omega (arith, length-commands (now (a .xs)) (now (a .ys)) (now (a .kinds))))
+    alike-till-requires loop-holds
+    (λ c. let a = c .before .before .before .before .before .before .before .args in
+    omega (arith, length-commands (now (a .xs)) (now (a .ys)) (now (a .kinds))))
+    returns (λ c. omega arith)
     (λ c. omega arith) loop-again returns-2)

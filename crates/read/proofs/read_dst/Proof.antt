@@ -1,43 +1,26 @@
 -- The colours of the header, and the records behind it.
-use mathlib.Core.Path.{sym}
 use native.Mathlib.Omega.{arith}
-use denote.Ref.{now}
-use lib.ListN.{take}
-use Rattle.rules.specs.Text.{linesOf}
-use Rattle.rules.specs.Dst.{lineColors}
-use Rattle.rules.specs.Layout.{shadeAt}
-use lib.Seq.{length-take-le}
 use Rattle.rules.specs.declared.Format.the-variants.{Dst}
-use Rattle.read.proofs.Colours.{stored-colour, answered-as}
+use Rattle.read.proofs.Colours.{cells-inside, cells-long, stored-answer}
 use borrow.Author.Needs.{needs}
 use Rattle.read.proofs.read_dst.Statement.{statement}
 use Rattle.read.proofs.read_dst.Tie as tie
 
-array-share-prefix-colors : tie.Need-array-share-prefix-colors
-array-share-prefix-colors c = omega (arith, c .before .before .dst-colors .ensures .room, c .before .before .dst-colors .kept .1 .0)
-
-slice-aggregate-read-records : tie.Need-slice-aggregate-read-records
-slice-aggregate-read-records c =
-    let p = c .before .before .before .dst-colors in
-    sym (length-take-le (p .result) (p .last .1 .0) (omega (arith, p .ensures .room, p .kept .1 .0)))
-
 read-records-requires : tie.Need-read-records-requires
-read-records-requires c κs =
-    let start = c .before .before .before .before .before .before .before .before .before .before .before in
-    omega (arith, c .before .before .before .before .rest .ensures .1, start .pre)
+read-records-requires c κs = omega arith
 
 returns : tie.Need-returns
 returns c =
-    let read-records = c .before .before .before .before .before .read-records in
-    let bytes = c .before .before .before .before .before .before .before .before .before .before .rest in
     let p = c .before .before .before .before .before .before .before .before .before .before .before .before .dst-colors in
-    let a = c .before .before .before .before .before .before .before .before .before .before .before .before .before .before .before .before .before .args in
-    let s = now (a .file) in
-    answered-as Dst (stored-colour (shadeAt (lineColors (linesOf (take 512 s)))) _ _ (p .ensures) (omega (arith, p .ensures .room, p .kept .1 .0))) (bytes .ensures .0) (read-records .ensures)
+    stored-answer (p .ensures) (p .kept .1 .0) Dst
+    (c .before .before .before .before .before .before .before .before .before .before .rest .ensures .0)
+    (c .before .before .before .before .before .read-records .ensures)
 
 pub read-dst-spec : {M : Type 1} → statement M
 read-dst-spec =
     tie.close
     (tie.spec
-    (λ c. search needs) (λ c κs. search needs) (λ c κs. search needs) array-share-prefix-colors slice-aggregate-read-records
+    (λ c. search needs) (λ c κs. search needs) (λ c κs. search needs)
+    (λ c. let p = c .before .before .dst-colors in cells-inside (p .ensures) (p .kept .1 .0))
+    (λ c. let p = c .before .before .before .dst-colors in cells-long (p .ensures) (p .kept .1 .0))
     read-records-requires (λ c. search needs) (λ c. search needs) (λ c. search needs) returns)

@@ -10,47 +10,36 @@ use Rattle.read.proofs.read_records.Tie as tie
 
 fill-requires : tie.Need-fill-requires
 fill-requires c κs =
-    let if1 = c .before .before .before .if1 in let ample′ = c .before .before .before .before .ample in
-    let start = c .before .before .before .before .before .before .before .before .before in
-    let a = start .args in
-    (start .pre, ample-fits (a .f) (colourIn (now (a .colors))) (now (a .bytes)) _ _ _ (ample′ .ensures (if1 .taken)))
+    let at = c .before .before .before in let start = at .before .before .before .before .before .before in let a = start .args in
+    (start .pre, ample-fits (a .f) (colourIn (now (a .colors))) (now (a .bytes)) _ _ _ (at .before .ample .ensures (at .if1 .taken)))
 
 returns : tie.Need-returns
 returns c =
-    let fill = c .before .before .before .before .before .fill in
-    let if1 = c .before .before .before .before .before .before .before .before .before .if1 in
-    let ample′ = c .before .before .before .before .before .before .before .before .before .before .ample in
-    let early = c .before .before .before .before .before .before .before .before .before .before .before .before in
-    let start = early .before .before .before in
-    let a = start .args in
-    let c′ = colourIn (now (a .colors)) in
-    let w = fill .ensures in
-    given-read c′ (w .0) (ample-fits (a .f) c′ (now (a .bytes)) _ _ _ (ample′ .ensures (if1 .taken))) (w .1 .0) (w .1 .1 .0) (w .1 .1 .1)
+    let w = c .before .before .before .before .before .fill .ensures in
+    let at = c .before .before .before .before .before .before .before .before .before in
+    let a = at .before .before .before .before .before .before .args in let c′ = colourIn (now (a .colors)) in
+    given-read c′ (w .0) (ample-fits (a .f) c′ (now (a .bytes)) _ _ _ (at .before .ample .ensures (at .if1 .taken))) (w .1 .0)
+    (w .1 .1 .0) (w .1 .1 .1)
 
 fill-requires-2 : tie.Need-fill-requires-2
 fill-requires-2 c κs =
-    let if2 = c .before .before .before .if2 in let has-room = c .before .before .before .before .has-room in
-    let count = c .before .before .before .before .before .count in
-    let start = c .before .before .before .before .before .before .before .before .before .before .before .before in
-    let a = start .args in
-    (start .pre, fits-told (colourIn (now (a .colors))) (count .ensures) _ _ _ (sym (has-room .ensures) ∙ if2 .taken))
+    let at = c .before .before .before in let start = at .before .before .before .before .before .before .before .before .before in (
+      start .pre,
+      fits-told (colourIn (now (start .args .colors))) (at .before .before .count .ensures) _ _ _
+          (sym (at .before .has-room .ensures) ∙ at .if2 .taken),
+    )
 
 returns-2 : tie.Need-returns-2
 returns-2 c =
-    let fill2 = c .before .before .before .before .before .fill2 in
-    let if2 = c .before .before .before .before .before .before .before .before .before .if2 in
-    let has-room = c .before .before .before .before .before .before .before .before .before .before .has-room in
-    let at-count = c .before .before .before .before .before .before .before .before .before .before .before in let count = at-count .count in
-    let start = at-count .before .before .before .before .before .before .before in
-    let a = start .args in
-    let c′ = colourIn (now (a .colors)) in
-    let w = fill2 .ensures in
-    given-read c′ (w .0) (fits-told c′ (count .ensures) _ _ _ (sym (has-room .ensures) ∙ if2 .taken)) (w .1 .0) (w .1 .1 .0) (w .1 .1 .1)
+    let w = c .before .before .before .before .before .fill2 .ensures in
+    let at = c .before .before .before .before .before .before .before .before .before in
+    let c′ = colourIn (now (at .before .before .before .before .before .before .before .before .before .args .colors)) in
+    given-read c′ (w .0) (fits-told c′ (at .before .before .count .ensures) _ _ _ (sym (at .before .has-room .ensures) ∙ at .if2 .taken))
+    (w .1 .0) (w .1 .1 .0) (w .1 .1 .1)
 
 returns-3 : tie.Need-returns-3
-returns-3 c =
-    let start = c .before .before .before .before .before .before .before .before .before in
-    let a = start .args in given-unread (colourIn (now (a .colors))) (c .before .before .count .ensures) (sym (c .before .has-room .ensures) ∙ c .if2 .left)
+returns-3 c = given-unread (colourIn (now (c .before .before .before .before .before .before .before .before .before .args .colors)))
+    (c .before .before .count .ensures) (sym (c .before .has-room .ensures) ∙ c .if2 .left)
 
 pub read-records-spec : {M : Type 1} → statement M
 read-records-spec =

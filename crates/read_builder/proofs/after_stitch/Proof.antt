@@ -6,15 +6,6 @@ use borrow.Author.Needs.{needs}
 use Rattle.read_builder.proofs.after_stitch.Statement.{statement}
 use Rattle.read_builder.proofs.after_stitch.Tie as tie
 
-add-t6 : tie.Need-add-t6
-add-t6 c = omega (arith, may-open (c .before .before .args .b .run) .least)
-
-add-t7 : tie.Need-add-t7
-add-t7 c = omega (arith, may-open (c .before .before .before .args .b .run) .least)
-
-add-t9 : tie.Need-add-t9
-add-t9 c = omega (arith, may-open (c .before .before .before .before .args .b .run) .least)
-
 returns : tie.Need-returns
 returns c =
     let s = c .before .before .before .before in
@@ -23,4 +14,9 @@ returns c =
     rw (c .before .before .before .opens .ensures, toZ-ofZ (s .fits .x), toZ-ofZ (s .fits .y), w .after, w .begun (a .b .begun), w .adds (a .b .points))
 
 pub after-stitch-spec : {M : Type 1} → statement M
-after-stitch-spec = tie.close (tie.spec (λ c κs. search needs) (λ c. search needs) add-t6 add-t7 (λ c. search needs) add-t9 returns)
+after-stitch-spec =
+    tie.close
+    (tie.spec
+    (λ c κs. search needs) (λ c. search needs) (λ c. omega (arith, may-open (c .before .before .args .b .run) .least))
+    (λ c. omega (arith, may-open (c .before .before .before .args .b .run) .least)) (λ c. search needs)
+    (λ c. omega (arith, may-open (c .before .before .before .before .args .b .run) .least)) returns)

@@ -15,18 +15,11 @@ returns c =
     pes-pec (λ (f : Format). Told (firstOf f) (now (a .bytes)) (c .count-steps .result)) (c .count-steps .ensures) (c .count-steps .ensures) (a .f)
     (c .before .match .keys1)
 
-returns-2 : tie.Need-returns-2
-returns-2 c = rw (c .before .enum-told .given .1) (c .count-triples .ensures)
-
-returns-3 : tie.Need-returns-3
-returns-3 c = rw (c .before .enum-told2 .given .1) (c .count-pairs .ensures)
-
-returns-4 : tie.Need-returns-4
-returns-4 c = rw (c .before .enum-told3 .given .1) (c .count-pairs2 .ensures)
-
 pub count-spec : {M : Type 1} → statement M
 count-spec =
     tie.close
     (tie.spec
-    (λ c κs. search needs) (λ c. search needs) (λ c κs. search needs) (λ c. search needs) (λ c κs. search needs)
-    (λ c. search needs) (λ c κs. search needs) returns returns-2 returns-3 returns-4)
+    (λ c κs. search needs) (λ c. search needs) (λ c κs. search needs) (λ c. search needs) (λ c κs. search needs) (λ c. search needs)
+    (λ c κs. search needs) returns (λ c. rw (c .before .enum-told .given .1) (c .count-triples .ensures))
+    (λ c. rw (c .before .enum-told2 .given .1) (c .count-pairs .ensures))
+    (λ c. rw (c .before .enum-told3 .given .1) (c .count-pairs2 .ensures)))

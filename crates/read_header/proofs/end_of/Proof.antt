@@ -17,32 +17,26 @@ Inv-loop s e₀ e = (e ≤ length s) × (trimEnd s ≡ trimEnd (take e s))
 abbrev μ-loop : tie.MeasureT-loop
 μ-loop s e₀ e = e
 
-loop-holds : tie.Need-loop-holds Inv-loop μ-loop
-loop-holds c = (omega arith, ap trimEnd (sym (take-length (now (c .before .args .s)))))
-
 returns : tie.Need-returns Inv-loop μ-loop
 returns c =
-    let loop-test = c .before .before .before .loop-test in let h = c .before .before .before .before .loop in
-    let start = c .before .before .before .before .before .before in
-    let a = start .args in
-    (omega arith, sym (h .inv .1 ∙ end-here (now (a .s)) (h .e) (loop-test .taken) (h .inv .0) (sym (c .before .is-blank .ensures) ∙ not-true _ (c .if1 .taken))))
+    let h = c .before .before .before .before .loop in (
+      omega arith,
+      sym (h .inv .1 ∙ end-here _ _ (c .before .before .before .loop-test .taken) (h .inv .0)
+          (sym (c .before .is-blank .ensures) ∙ not-true _ (c .if1 .taken))),
+    )
 
 loop-again : tie.Need-loop-again Inv-loop μ-loop
 loop-again c =
-    let loop-test = c .before .before .before .loop-test in let h = c .before .before .before .before .loop in
-    let start = c .before .before .before .before .before .before in
-    let a = start .args in
-    (omega arith, h .inv .1 ∙ end-more (now (a .s)) (h .e) (loop-test .taken) (h .inv .0) (sym (c .before .is-blank .ensures) ∙ not-false _ (c .if1 .left)))
-
-returns-2 : tie.Need-returns-2 Inv-loop μ-loop
-returns-2 c =
-    let h = c .before .loop in
-    let a = c .before .before .before .args in
-    (omega arith, sym (h .inv .1 ∙ end-none (now (a .s)) (h .e) (c .loop-test .left)))
+    let h = c .before .before .before .before .loop in (
+      omega arith,
+      h .inv .1 ∙ end-more _ _ (c .before .before .before .loop-test .taken) (h .inv .0)
+          (sym (c .before .is-blank .ensures) ∙ not-false _ (c .if1 .left)),
+    )
 
 pub end-of-spec : {M : Type 1} → statement M
 end-of-spec =
     tie.close
     (tie.spec
-    Inv-loop μ-loop loop-holds (λ c. omega arith) (λ c. omega arith) (λ c κs. tt) returns (λ c. omega arith) (λ c. omega arith) loop-again
-    returns-2)
+    Inv-loop μ-loop (λ c. (omega arith, ap trimEnd (sym (take-length (now (c .before .args .s)))))) (λ c. omega arith)
+    (λ c. omega arith) (λ c κs. tt) returns (λ c. omega arith) (λ c. omega arith) loop-again
+    (λ c. (omega arith, sym (c .before .loop .inv .1 ∙ end-none _ _ (c .loop-test .left)))))

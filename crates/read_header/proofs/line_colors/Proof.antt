@@ -9,7 +9,8 @@ use Rattle.rules.specs.Text.{linesOf}
 use Rattle.rules.specs.Dst.{lineColors, addColor}
 use Rattle.rules.specs.declared.Slot.{Slot}
 use Rattle.read_header.specs.Lines.{linesFrom}
-use Rattle.read_header.proofs.Colors.{Listed, listed-start, listed-more, listed-done, color-long, colors-more, colors-none, colors-all}
+use Rattle.read_header.proofs.Colors.{Listed, listed-start, listed-more, listed-done, color-long}
+use Rattle.read_header.proofs.Lines.{lines-all, lines-none}
 use Rattle.read_header.proofs.line_colors.Statement.{statement}
 use Rattle.read_header.proofs.line_colors.Tie as tie
 
@@ -23,14 +24,10 @@ loop-holds : tie.Need-loop-holds Inv-loop μ-loop
 loop-holds c =
     let s = now (c .before .before .args .s) in
     let cells = now (c .before .before .args .colors) in
-    (omega arith, (refl, rw (colors-all s) (listed-start (lineColors (linesOf s)) cells (omega (arith, c .before .before .pre .1)))))
-
-put-color-requires : tie.Need-put-color-requires Inv-loop μ-loop
-put-color-requires c κs =
-    let h = c .before .before .before .before .before .loop in
-    omega (arith, h .inv .1 .1 .bytes, h .inv .1 .1 .size)
+    (omega arith, (refl, rw (lines-all s) (listed-start (lineColors (linesOf s)) cells (omega (arith, c .before .before .pre .1)))))
 
 loop-again : tie.Need-loop-again Inv-loop μ-loop
+unfolding lineColors
 loop-again c =
     let put-color = c .before .before .put-color in let line-color = c .before .before .before .before .line-color in
     let line-end = c .before .before .before .before .before .before .line-end in
@@ -44,7 +41,7 @@ loop-again c =
       (
         omega (arith, put-color .kept .1 .1 .0, h .inv .1 .0),
         listed-more (lineColors (linesOf s)) (h .colors) (h .n) (h .at) e (omega (arith, h .inv .1 .1 .bytes)) (line-color .result) (put-color .ensures)
-            (colors-more s (h .at) e (line-end .ensures) ∙ ap (λ (c : Slot). addColor c (lineColors (linesFrom (e + 1) s))) (sym q))
+            (ap lineColors (line-end .ensures .lines) ∙ ap (λ (c : Slot). addColor c (lineColors (linesFrom (e + 1) s))) (sym q))
             (line-end .ensures .starts)
             (λ t p. omega (arith, color-long l t (sym q ∙ p), length-take (e - h .at) (drop (h .at) s)))
             (h .inv .1 .1),
@@ -52,13 +49,16 @@ loop-again c =
     )
 
 returns : tie.Need-returns Inv-loop μ-loop
+unfolding lineColors
 returns c =
     let s = now (c .before .before .before .before .args .s) in
-    listed-done (lineColors (linesOf s)) (colors-none s (c .before .loop .at) (omega arith)) (omega arith) (c .before .loop .inv .1 .1)
+    listed-done (lineColors (linesOf s)) (ap lineColors (lines-none s (c .before .loop .at) (omega arith))) (omega arith)
+    (c .before .loop .inv .1 .1)
 
 pub line-colors-spec : {M : Type 1} → statement M
 line-colors-spec =
     tie.close
     (tie.spec
-    Inv-loop μ-loop loop-holds (λ c κs. omega arith) (λ c. omega arith) (λ c. search needs) (λ c. search needs) (λ c κs. tt)
-    put-color-requires (λ c. omega arith) (λ c. omega arith) loop-again (λ c. c .before .loop .inv .1 .0) returns)
+    Inv-loop μ-loop loop-holds (λ c κs. omega arith) (λ c. omega arith) (λ c. search needs) (λ c. search needs)
+    (λ c κs. tt) (λ c κs. search needs) (λ c. omega arith) (λ c. omega arith) loop-again
+    (λ c. c .before .loop .inv .1 .0) returns)

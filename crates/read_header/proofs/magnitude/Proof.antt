@@ -21,14 +21,11 @@ cast-w c = rw (toZ-ofZ (c .fits .z)) (wide (c .fits .z))
 sub-result : tie.Need-sub-result
 sub-result c = let f = c .before .fits .z in rw (toZ-ofZ f, toZ-ofZ (wide f)) (omega (ints, seen f))
 
-cast-result : tie.Need-cast-result
-cast-result c = let f = c .before .fits .z in let h = cast-w (c .before) in let k = sub-result c in omega (ints, seen f)
-
-returns : tie.Need-returns
-returns c = let f = c .before .fits .z in rw (toZ-ofZ (sub-result c), toZ-ofZ f, toZ-ofZ (wide f)) (minus (c .before .args .z))
-
-cast-result-2 : tie.Need-cast-result-2
-cast-result-2 c = let f = c .before .fits .z in let h = cast-w (c .before) in omega (ints, seen f)
-
 pub magnitude-spec : {M : Type 1} → statement M
-magnitude-spec = tie.close (tie.spec cast-w sub-result cast-result returns cast-result-2 (λ c. let f = c .before .fits .z in rw (toZ-ofZ f, toZ-ofZ (wide f))))
+magnitude-spec =
+    tie.close
+    (tie.spec
+    cast-w sub-result (λ c. let f = c .before .fits .z in let h = cast-w (c .before) in let k = sub-result c in omega (ints, seen f))
+    (λ c. let f = c .before .fits .z in rw (toZ-ofZ (sub-result c), toZ-ofZ f, toZ-ofZ (wide f)) (minus (c .before .args .z)))
+    (λ c. let f = c .before .fits .z in let h = cast-w (c .before) in omega (ints, seen f))
+    (λ c. let f = c .before .fits .z in rw (toZ-ofZ f, toZ-ofZ (wide f))))

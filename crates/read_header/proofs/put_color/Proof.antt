@@ -4,15 +4,10 @@ use borrow.Author.Needs.{needs}
 use Rattle.read_header.proofs.put_color.Statement.{statement}
 use Rattle.read_header.proofs.put_color.Tie as tie
 
-returns : tie.Need-returns
-returns c = rw (c .enum-told .given .1) (refl, refl)
-
-returns-2 : tie.Need-returns-2
-returns-2 c = rw (c .before .before .s .given .1) (refl, (_, (c .cell-of .ensures, refl)))
-
 pub put-color-spec : {M : Type 1} → statement M
 put-color-spec =
     tie.close
     (tie.spec
-    (λ c. search needs) (λ c. search needs) returns (λ c κs. search needs) (λ c. search needs)
-    (λ c. search needs) (λ c. search needs) (λ c. search needs) returns-2)
+    (λ c. search needs) (λ c. search needs) (λ c. rw (c .enum-told .given .1) (refl, refl)) (λ c κs. search needs) (λ c. search needs)
+    (λ c. search needs) (λ c. search needs) (λ c. search needs)
+    (λ c. rw (c .before .before .s .given .1) (refl, (_, (c .cell-of .ensures, refl)))))

@@ -5,24 +5,22 @@ use borrow.Author.Needs.{needs}
 use Rattle.read_header.proofs.six_digits.Statement.{statement}
 use Rattle.read_header.proofs.six_digits.Tie as tie
 
-returns : tie.Need-returns
-unfolding sixDigits
-returns c = rw (ne-eqb _ _ (c .if1 .taken))
-
 returns-2 : tie.Need-returns-2
 unfolding sixDigits
 returns-2 c =
+    let q = c .before .before .before .before in let p = q .before .before .before in
     rw (
-      eq-eqb _ _ (c .before .before .before .before .before .before .before .before .before .before .if1 .left),
-      ← c .before .before .before .before .before .before .before .hex-pair .ensures,
-      ← c .before .before .before .before .hex-pair2 .ensures,
+      eq-eqb _ _ (p .before .before .before .if1 .left),
+      ← p .hex-pair .ensures,
+      ← q .hex-pair2 .ensures,
       ← c .before .hex-pair3 .ensures,
     ) (c .hex-color .ensures)
 
 pub six-digits-spec : {M : Type 1} → statement M
+unfolding sixDigits
 six-digits-spec =
     tie.close
     (tie.spec
-    returns (λ c. search needs) (λ c. search needs) (λ c κs. search needs) (λ c. search needs) (λ c. search needs)
-    (λ c κs. search needs) (λ c. search needs) (λ c. search needs) (λ c κs. search needs) (λ c κs. search needs)
+    (λ c. rw (ne-eqb _ _ (c .if1 .taken))) (λ c. search needs) (λ c. search needs) (λ c κs. search needs) (λ c. search needs)
+    (λ c. search needs) (λ c κs. search needs) (λ c. search needs) (λ c. search needs) (λ c κs. search needs) (λ c κs. search needs)
     returns-2)

@@ -16,21 +16,12 @@ returns c =
     pes-pec (λ (f : Format). c .pec-record .result ≡ firstOf f (drop (a .at) (now (a .file)))) (c .pec-record .ensures) (c .pec-record .ensures) (a .f)
     (c .before .match .keys1)
 
-returns-2 : tie.Need-returns-2
-unfolding firstOf
-returns-2 c = rw (c .before .enum-told .given .1) (c .dst-record .ensures)
-
-returns-3 : tie.Need-returns-3
-unfolding firstOf
-returns-3 c = rw (c .before .enum-told2 .given .1) (c .exp-record .ensures)
-
-returns-4 : tie.Need-returns-4
-unfolding firstOf
-returns-4 c = rw (c .before .enum-told3 .given .1) (c .exp-record2 .ensures)
-
 pub record-at-spec : {M : Type 1} → statement M
+unfolding firstOf
 record-at-spec =
     tie.close
     (tie.spec
-    (λ c κs. search needs) (λ c. search needs) (λ c κs. search needs) (λ c. search needs) (λ c κs. search needs)
-    (λ c. search needs) (λ c κs. search needs) returns returns-2 returns-3 returns-4)
+    (λ c κs. search needs) (λ c. search needs) (λ c κs. search needs) (λ c. search needs) (λ c κs. search needs) (λ c. search needs)
+    (λ c κs. search needs) returns (λ c. rw (c .before .enum-told .given .1) (c .dst-record .ensures))
+    (λ c. rw (c .before .enum-told2 .given .1) (c .exp-record .ensures))
+    (λ c. rw (c .before .enum-told3 .given .1) (c .exp-record2 .ensures)))

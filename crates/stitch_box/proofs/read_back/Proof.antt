@@ -1,5 +1,4 @@
 -- By what the read answers.
-use mathlib.Core.Path.{refl}
 use Rattle.stitch_box.specs.Back.{backAnswer}
 use borrow.Author.Needs.{needs}
 use Rattle.stitch_box.proofs.read_back.Statement.{statement}

@@ -10,7 +10,6 @@ use lib.ListN.{getD}
 use mir.Facts.{toZ-ofZ}
 use mir.Syntax.{w32}
 use mir.Val.{toZ, ofZ}
-use Rattle.laws.specs.Buffers.{put-length}
 use Rattle.laws.specs.Ints.{ret}
 use Rattle.laws.specs.Listing.{Listed, listed}
 use Rattle.thumbnail_tables.specs.Cells.{From}
@@ -132,12 +131,12 @@ put-rows-requires-3 : tie.Need-put-rows-requires-3 Inv-loop μ-loop
 put-rows-requires-3 c κs =
     let put = c .before .before .before .before in
     let inv = put .before .before .before .before .loop .inv in
-    (inv .icon-long, omega (arith, put-length (put .put-rows2 .ensures), inv .blocks .same, inv .blocks .room))
+    (inv .icon-long, omega (arith, put .put-rows2 .ensures .same, inv .blocks .same, inv .blocks .room))
 
 same-length : tie.Need-same-length Inv-loop μ-loop
 same-length c =
     let put = c .before .before .before .before .before .before .before in
-    put-length (c .before .before .put-rows3 .ensures) ∙ put-length (put .put-rows2 .ensures) ∙ put .before .before .before .before .loop .inv .blocks .same
+    c .before .before .put-rows3 .ensures .same ∙ put .put-rows2 .ensures .same ∙ put .before .before .before .before .loop .inv .blocks .same
 
 returns : tie.Need-returns Inv-loop μ-loop
 returns c =

@@ -1,5 +1,5 @@
 -- The answer is the first of refusals 6 to 10 that holds, asked in their order.
-use mathlib.Core.Path.{_≡_, sym, _∙_}
+use mathlib.Core.Path.{_≡_, refl, sym, _∙_}
 use mathlib.Core.Bool.{false}
 use mathlib.Core.List.{List}
 use Prim.Native.Nat.{ℕ, _≤_}
@@ -7,7 +7,7 @@ use borrow.Author.Tests.{ltb-false}
 use denote.Ref.{now}
 use lib.Dec.{eqb}
 use lib.IntN.{ℤ}
-use lib.ListN.{length}
+use lib.ListN.{length, drop}
 use Rattle.rules.specs.Refusals.{badList, verdict, listRefusals, listVerdict}
 use Rattle.laws.specs.Tests.{or-no-left, or-no-right}
 use borrow.Author.Needs.{needs}
@@ -19,20 +19,31 @@ few : (xs ys : List ℤ) (ks : List ℕ) → badList xs ys ks ≡ false → leng
 unfolding badList
 few xs ys ks e = ltb-false 65535 (length ks) (or-no-left _ _ (or-no-right (eqb (length ks) 0) _ e))
 
-returns : tie.Need-returns
-unfolding listVerdict listRefusals verdict
-returns c = rw (← c .before .bad-list .ensures, c .if1 .taken)
+-- the conditions past the first k decide: past each that does not hold, those after it
+abbrev Past : ℕ → tie.Start → Type 0
+Past k s =
+    let a = s .args in let xs = now (a .xs) in let ys = now (a .ys) in let ks = now (a .kinds) in
+    verdict (drop k (listRefusals (a .f) xs ys ks (now (a .threads)))) ≡ listVerdict (a .f) xs ys ks (now (a .threads))
 
-returns-2 : tie.Need-returns-2
-unfolding listVerdict listRefusals verdict
-returns-2 c =
-    let e1 = c .before .before in
-    rw (
-      ← e1 .before .bad-list .ensures,
-      e1 .if1 .left,
-      ← c .before .place-outside .ensures,
-      c .if2 .taken,
-    )
+past0 : (s : tie.Start) → Past 0 s
+unfolding listVerdict
+past0 s = refl
+
+past1 : (c : tie.Else1) → Past 1 (c .before .before .before .before)
+unfolding listRefusals verdict
+past1 c = rw (← c .before .bad-list .ensures, c .if1 .left) at (past0 (c .before .before .before .before))
+
+past2 : (c : tie.Else2) → Past 2 (c .before .before .before .before .before .before)
+unfolding listRefusals verdict
+past2 c = rw (← c .before .place-outside .ensures, c .if2 .left) at (past1 (c .before .before))
+
+past3 : (c : tie.Else3) → Past 3 (c .before .before .before .before .before .before .before .before)
+unfolding listRefusals verdict
+past3 c = rw (← c .before .too-many .ensures, c .if3 .left) at (past2 (c .before .before))
+
+past4 : (c : tie.Else4) → Past 4 (c .before .before .before .before .before .before .before .before .before .before)
+unfolding listRefusals verdict
+past4 c = rw (← c .before .moved .ensures, c .if4 .left) at (past3 (c .before .before))
 
 too-many-requires : tie.Need-too-many-requires
 too-many-requires c κs =
@@ -40,85 +51,19 @@ too-many-requires c κs =
     let a = e1 .before .before .before .before .args in
     few (now (a .xs)) (now (a .ys)) (now (a .kinds)) (sym (e1 .before .bad-list .ensures) ∙ e1 .if1 .left)
 
-returns-3 : tie.Need-returns-3
-unfolding listVerdict listRefusals verdict
-returns-3 c =
-    let e2 = c .before .before in
-    let e1 = e2 .before .before in
-    rw (
-      ← e1 .before .bad-list .ensures,
-      e1 .if1 .left,
-      ← e2 .before .place-outside .ensures,
-      e2 .if2 .left,
-      ← c .before .too-many .ensures,
-      c .if3 .taken,
-    )
-
-returns-4 : tie.Need-returns-4
-unfolding listVerdict listRefusals verdict
-returns-4 c =
-    let e3 = c .before .before in
-    let e2 = e3 .before .before in
-    let e1 = e2 .before .before in
-    rw (
-      ← e1 .before .bad-list .ensures,
-      e1 .if1 .left,
-      ← e2 .before .place-outside .ensures,
-      e2 .if2 .left,
-      ← e3 .before .too-many .ensures,
-      e3 .if3 .left,
-      ← c .before .moved .ensures,
-      c .if4 .taken,
-    )
-
 step-too-long-requires : tie.Need-step-too-long-requires
 step-too-long-requires c κs =
     let e2 = c .before .before .before .before in
     sym (e2 .before .place-outside .ensures) ∙ e2 .if2 .left
 
-returns-5 : tie.Need-returns-5
-unfolding listVerdict listRefusals verdict
-returns-5 c =
-    let e4 = c .before .before in
-    let e3 = e4 .before .before in
-    let e2 = e3 .before .before in
-    let e1 = e2 .before .before in
-    rw (
-      ← e1 .before .bad-list .ensures,
-      e1 .if1 .left,
-      ← e2 .before .place-outside .ensures,
-      e2 .if2 .left,
-      ← e3 .before .too-many .ensures,
-      e3 .if3 .left,
-      ← e4 .before .moved .ensures,
-      e4 .if4 .left,
-      ← c .before .step-too-long .ensures,
-      c .if5 .taken,
-    )
-
-returns-6 : tie.Need-returns-6
-unfolding listVerdict listRefusals verdict
-returns-6 c =
-    let e4 = c .before .before in
-    let e3 = e4 .before .before in
-    let e2 = e3 .before .before in
-    let e1 = e2 .before .before in
-    rw (
-      ← e1 .before .bad-list .ensures,
-      e1 .if1 .left,
-      ← e2 .before .place-outside .ensures,
-      e2 .if2 .left,
-      ← e3 .before .too-many .ensures,
-      e3 .if3 .left,
-      ← e4 .before .moved .ensures,
-      e4 .if4 .left,
-      ← c .before .step-too-long .ensures,
-      c .if5 .left,
-    )
-
 pub check-list-spec : {M : Type 1} → statement M
+unfolding listRefusals verdict
 check-list-spec =
     tie.close
     (tie.spec
-    (λ c κs. search needs) returns (λ c κs. search needs) returns-2 too-many-requires returns-3
-    (λ c κs. search needs) returns-4 step-too-long-requires returns-5 returns-6)
+    (λ c κs. search needs) (λ c. rw (← c .before .bad-list .ensures, c .if1 .taken) at (past0 (c .before .before .before .before)))
+    (λ c κs. search needs) (λ c. rw (← c .before .place-outside .ensures, c .if2 .taken) at (past1 (c .before .before)))
+    too-many-requires (λ c. rw (← c .before .too-many .ensures, c .if3 .taken) at (past2 (c .before .before)))
+    (λ c κs. search needs) (λ c. rw (← c .before .moved .ensures, c .if4 .taken) at (past3 (c .before .before)))
+    step-too-long-requires (λ c. rw (← c .before .step-too-long .ensures, c .if5 .taken) at (past4 (c .before .before)))
+    (λ c. rw (← c .before .step-too-long .ensures, c .if5 .left) at (past4 (c .before .before))))

@@ -1,6 +1,7 @@
 -- The count for the whole list is what was found and the count for the commands that are left.
 use mathlib.Core.Path.{_≡_, refl, sym, ap, _∙_}
 use mathlib.Core.Bool.{Bool, true, false}
+use mathlib.Core.List.{List}
 use Prim.Native.Nat.{_+_, _-_, _≤_, _<_}
 use native.Mathlib.Omega.{arith}
 use denote.Ref.{now}
@@ -9,6 +10,7 @@ use mir.Val.{boolByte}
 use Rattle.rules.specs.Vocabulary.{count, pick}
 use Rattle.rules.specs.Lists.{commands}
 use Rattle.rules.specs.Refusals.{changes}
+use Rattle.rules.specs.declared.Cmd.{Cmd}
 use Rattle.laws.specs.Listing.{count-more, count-end, count-le, noCmd, commands-at}
 use Rattle.write_refusals.proofs.Walk.{Held, held}
 use Rattle.write_refusals.proofs.color_changes.Statement.{statement}
@@ -28,28 +30,28 @@ byte-is : (t : Bool) → pick t 1 0 ≡ boolByte t
 byte-is true = refl
 byte-is false = refl
 
+-- the list's commands
+abbrev cmds : tie.Start Inv-loop μ-loop → List Cmd
+cmds s = commands (now (s .args .xs)) (now (s .args .ys)) (now (s .args .kinds))
+
 -- a turn: the call tells whether one more is found
 turn : (c : tie.After-is-change Inv-loop μ-loop)
-    → (let head = c .before .before .before in
-    let a = head .before .before .before .args in
-    let cs = commands (now (a .xs)) (now (a .ys)) (now (a .kinds)) in
+    → (let head = c .before .before .before in let cs = cmds (head .before .before .before) in
     count changes cs ≡ head .loop .found + boolByte (c .is-change .result) + count changes (drop (head .loop .i + 1) cs))
 unfolding changes
 turn c =
     let head = c .before .before .before in
-    let a = head .before .before .before .args in
-    let cs = commands (now (a .xs)) (now (a .ys)) (now (a .kinds)) in
-    let l : head .loop .i < length cs = omega arith in
+    let i = head .loop .i in
+    let cs = cmds (head .before .before .before) in
+    let l : i < length cs = omega arith in
     rw byte-is at
-    (count-more changes cs noCmd (head .loop .i) (head .loop .found) (head .loop .inv .1 .1) (c .is-change .result) l
-    (ap changes (commands-at (now (a .xs)) (now (a .ys)) (now (a .kinds)) (head .loop .i) l) ∙ sym (c .is-change .ensures)))
+    (count-more changes cs noCmd i (head .loop .found) (head .loop .inv .1 .1) (c .is-change .result) l
+    (ap changes (commands-at _ _ _ i l) ∙ sym (c .is-change .ensures)))
 
 loop-holds : tie.Need-loop-holds Inv-loop μ-loop
 loop-holds c =
-    let a = c .before .before .args in
-    let cs = commands (now (a .xs)) (now (a .ys)) (now (a .kinds)) in
-    let h = held (now (a .xs)) (now (a .ys)) (now (a .kinds)) (c .list-len .result) (c .list-len .ensures) in
-    (h, (omega (arith, count-le changes cs), omega arith))
+    let h : Held _ _ _ (c .list-len .result) = held (c .list-len .ensures) in
+    (h, (omega (arith, count-le changes (cmds (c .before .before))), omega arith))
 
 loop-again : tie.Need-loop-again Inv-loop μ-loop
 loop-again c = let inv = c .before .before .before .loop .inv in (inv .0, (inv .1 .0, turn c))
@@ -57,9 +59,7 @@ loop-again c = let inv = c .before .before .before .loop .inv in (inv .0, (inv .
 returns : tie.Need-returns Inv-loop μ-loop
 returns c =
     let head = c .before in
-    let a = head .before .before .before .args in
-    let cs = commands (now (a .xs)) (now (a .ys)) (now (a .kinds)) in
-    count-end changes cs noCmd (head .loop .i) (head .loop .found) (head .loop .inv .1 .1) (omega arith)
+    count-end changes (cmds (head .before .before .before)) noCmd (head .loop .i) (head .loop .found) (head .loop .inv .1 .1) (omega arith)
 
 pub color-changes-spec : {M : Type 1} → statement M
 color-changes-spec =

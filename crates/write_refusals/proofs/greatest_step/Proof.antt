@@ -8,17 +8,14 @@ use borrow.Author.Needs.{needs}
 use Rattle.write_refusals.proofs.greatest_step.Statement.{statement}
 use Rattle.write_refusals.proofs.greatest_step.Tie as tie
 
-returns : tie.Need-returns
-unfolding greatestStep
-returns c = pes-pec (λ (f : Format). pos 2047 ≡ greatestStep f) refl refl (c .before .args .f) (c .match .keys1)
-
-returns-2 : tie.Need-returns-2
-unfolding greatestStep
-returns-2 c = rw (c .enum-told .given .1)
-
 returns-3 : tie.Need-returns-3
 unfolding greatestStep
 returns-3 c = exp-jef (λ (f : Format). pos 127 ≡ greatestStep f) refl refl (c .before .args .f) (c .match .keys3)
 
 pub greatest-step-spec : {M : Type 1} → statement M
-greatest-step-spec = tie.close (tie.spec (λ c. search needs) returns returns-2 returns-3)
+unfolding greatestStep
+greatest-step-spec =
+    tie.close
+    (tie.spec
+    (λ c. search needs) (λ c. pes-pec (λ (f : Format). pos 2047 ≡ greatestStep f) refl refl (c .before .args .f) (c .match .keys1))
+    (λ c. rw (c .enum-told .given .1)) returns-3)

@@ -5,11 +5,11 @@ use borrow.Author.Needs.{needs}
 use Rattle.write_refusals.proofs.is_placed.Statement.{statement}
 use Rattle.write_refusals.proofs.is_placed.Tie as tie
 
-returns : tie.Need-returns
-unfolding placed
-returns c =
-    let f = c .before .before .fits in
-    rw (c .before .is-between .ensures, c .is-between2 .ensures, toZ-ofZ (f .x), toZ-ofZ (f .y))
-
 pub is-placed-spec : {M : Type 1} → statement M
-is-placed-spec = tie.close (tie.spec (λ c κs. search needs) (λ c κs. search needs) returns)
+unfolding placed
+is-placed-spec =
+    tie.close
+    (tie.spec
+    (λ c κs. search needs) (λ c κs. search needs)
+    (λ c. let f = c .before .before .fits in
+    simp (c .before .is-between .ensures, c .is-between2 .ensures, toZ-ofZ (f .x), toZ-ofZ (f .y))))

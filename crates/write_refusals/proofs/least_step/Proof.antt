@@ -8,17 +8,14 @@ use borrow.Author.Needs.{needs}
 use Rattle.write_refusals.proofs.least_step.Statement.{statement}
 use Rattle.write_refusals.proofs.least_step.Tie as tie
 
-returns : tie.Need-returns
-unfolding leastStep
-returns c = pes-pec (λ (f : Format). negℤ (pos 2048) ≡ leastStep f) refl refl (c .before .args .f) (c .match .keys1)
-
-returns-2 : tie.Need-returns-2
-unfolding leastStep
-returns-2 c = rw (c .enum-told .given .1)
-
 returns-3 : tie.Need-returns-3
 unfolding leastStep
 returns-3 c = exp-jef (λ (f : Format). negℤ (pos 127) ≡ leastStep f) refl refl (c .before .args .f) (c .match .keys3)
 
 pub least-step-spec : {M : Type 1} → statement M
-least-step-spec = tie.close (tie.spec (λ c. search needs) returns returns-2 returns-3)
+unfolding leastStep
+least-step-spec =
+    tie.close
+    (tie.spec
+    (λ c. search needs) (λ c. pes-pec (λ (f : Format). negℤ (pos 2048) ≡ leastStep f) refl refl (c .before .args .f) (c .match .keys1))
+    (λ c. rw (c .enum-told .given .1)) returns-3)

@@ -4,11 +4,10 @@ use borrow.Author.Needs.{needs}
 use Rattle.write_refusals.proofs.moves.Statement.{statement}
 use Rattle.write_refusals.proofs.moves.Tie as tie
 
-returns : tie.Need-returns
-returns c =
-    let f = c .before .before .fits in
-    rw (c .before .is-standing .ensures, c .is-same-place .ensures)
-    (simp (toZ-ofZ (f .x0), toZ-ofZ (f .y0), toZ-ofZ (f .x), toZ-ofZ (f .y)))
-
 pub moves-spec : {M : Type 1} → statement M
-moves-spec = tie.close (tie.spec (λ c κs. search needs) (λ c κs. search needs) returns)
+moves-spec =
+    tie.close
+    (tie.spec
+    (λ c κs. search needs) (λ c κs. search needs)
+    (λ c. let f = c .before .before .fits in
+    simp (c .before .is-standing .ensures, c .is-same-place .ensures, toZ-ofZ (f .x0), toZ-ofZ (f .y0), toZ-ofZ (f .x), toZ-ofZ (f .y))))

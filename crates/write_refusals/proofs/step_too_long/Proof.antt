@@ -1,14 +1,13 @@
 -- What is gathered tells the commands before i, and what is left the others, from the place before. All places are in range, so no
 -- difference is past 32,000.
-use mathlib.Core.Path.{_≡_, refl, ap, _∙_}
-use mathlib.Core.Bool.{Bool, _&&_, _||_, not}
+use mathlib.Core.Path.{refl, _∙_}
+use mathlib.Core.Bool.{Bool, _&&_, not}
 use Prim.Native.Nat.{_-_}
 use native.Mathlib.Omega.{arith}
 use denote.Ref.{now}
-use lib.ListN.{drop}
 use lib.IntN.{ℤ, pos, _-ℤ_}
 use mir.Syntax.{w32}
-use mir.Val.{toZ, ofZ}
+use mir.Val.{toZ}
 use mir.Facts.{toZ-ofZ}
 use Rattle.rules.specs.Vocabulary.{between}
 use Rattle.rules.specs.Lists.{commands, anyFrom}
@@ -16,7 +15,7 @@ use Rattle.rules.specs.Refusals.{stepsPast, stepTooLong, stepIn}
 use Rattle.rules.specs.declared.Cmd.{Cmd}
 use Rattle.laws.specs.Ints.{ints, ret, abs-is}
 use Rattle.laws.specs.Places.{Small, Within}
-use Rattle.write_refusals.proofs.Walk.{Held, held, readAt, here, step-more, step-end}
+use Rattle.write_refusals.proofs.Walk.{Told, Held, held, readAt, here, one-more, one-end}
 use Rattle.write_refusals.proofs.step_too_long.Statement.{statement}
 use Rattle.write_refusals.proofs.step_too_long.Tie as tie
 
@@ -28,8 +27,8 @@ abbrev Inv-loop : tie.InvT-loop
 Inv-loop xs ys kinds n lo hi x₀ y₀ bad₀ i₀ x y bad i =
     Held xs ys kinds n
     × ((Small (toZ w32 x) × Small (toZ w32 y))
-    × (anyFrom (past (toZ w32 lo) (toZ w32 hi)) (pos 0) (pos 0) (commands xs ys kinds)
-    ≡ (bad || anyFrom (past (toZ w32 lo) (toZ w32 hi)) (toZ w32 x) (toZ w32 y) (drop i (commands xs ys kinds)))))
+    × (let p = past (toZ w32 lo) (toZ w32 hi) in
+    Told (anyFrom p (pos 0) (pos 0) (commands xs ys kinds)) (anyFrom p (toZ w32 x) (toZ w32 y)) (commands xs ys kinds) bad i))
 
 abbrev μ-loop : tie.MeasureT-loop
 μ-loop xs ys kinds n lo hi x₀ y₀ bad₀ i₀ x y bad i = n - i
@@ -45,14 +44,7 @@ near : (c : tie.After-ny Inv-loop μ-loop) → Within (next c)
 near c =
     let inside = c .before .before in
     let head = inside .before in
-    here (head .loop .inv .0) (head .loop .i) (head .before .before .before .before .before .pre) (inside .loop-test .taken)
-    (c .before .nx .given) (c .ny .given)
-
-loop-holds : tie.Need-loop-holds Inv-loop μ-loop
-loop-holds c =
-    let a = c .before .before .before .before .args in
-    let len = c .before .before in
-    (held (now (a .xs)) (now (a .ys)) (now (a .kinds)) (len .list-len .result) (len .list-len .ensures), (omega arith, refl))
+    here (head .loop .inv .0) (head .before .before .before .before .before .pre) (inside .loop-test .taken) (c .before .nx .given) (c .ny .given)
 
 sub-is-step-in : tie.Need-sub-is-step-in Inv-loop μ-loop
 sub-is-step-in c =
@@ -65,37 +57,32 @@ sub-is-step-in-2 c =
     omega (ints, near c .down, abs-is (next c .y), loop .inv .1 .0 .1, abs-is (toZ w32 (loop .y)))
 
 loop-again : tie.Need-loop-again Inv-loop μ-loop
+unfolding anyFrom
 loop-again c =
     let b = c .before in
-    let inside = b .before .before in
-    let head = inside .before in
-    let loop = head .loop in
-    let lo = toZ w32 (ofZ w32 (head .before .before .least-step .result)) in
-    let hi = toZ w32 (ofZ w32 (head .before .greatest-step .result)) in (
-      loop .inv .0,
+    let inv = b .before .before .before .loop .inv in
+    let told = rw (toZ-ofZ (sub-is-step-in b), toZ-ofZ (sub-is-step-in-2 b)) at (c .is-step-in .ensures) in (
+      inv .0,
       (
         (near b .across, near b .down),
-        step-more (loop .inv .0) (loop .i) (past lo hi) (toZ w32 (loop .x)) (toZ w32 (loop .y)) (loop .bad) (loop .inv .1 .1)
-            (inside .loop-test .taken) (b .before .nx .given) (b .ny .given)
-            (ap not (rw (toZ-ofZ (sub-is-step-in b), toZ-ofZ (sub-is-step-in-2 b)) at (c .is-step-in .ensures))),
+        one-more (inv .0) (inv .1 .1) _ (b .before .before .loop-test .taken) (b .before .nx .given) (b .ny .given) (λ rest. rw told),
       ),
     )
 
 returns : tie.Need-returns Inv-loop μ-loop
-unfolding stepTooLong stepsPast stepIn
+unfolding anyFrom stepTooLong stepsPast stepIn
 returns c =
     let head = c .before in
-    let loop = head .loop in
     let low = head .before .before .least-step in
     let high = head .before .greatest-step in
-    let lo = toZ w32 (ofZ w32 (low .result)) in
-    let hi = toZ w32 (ofZ w32 (high .result)) in
     rw (ret w32 (low .result) (low .ok) ∙ low .ensures, ret w32 (high .result) (high .ok) ∙ high .ensures) at
-    (step-end (loop .inv .0) (loop .i) (past lo hi) (toZ w32 (loop .x)) (toZ w32 (loop .y)) (loop .bad) (loop .inv .1 .1) (c .loop-test .left))
+    (one-end (head .loop .inv .0) (head .loop .inv .1 .1) (c .loop-test .left) refl)
 
 pub step-too-long-spec : {M : Type 1} → statement M
 step-too-long-spec =
     tie.close
     (tie.spec
-    Inv-loop μ-loop (λ c κs. tt) (λ c κs. tt) (λ c κs. tt) loop-holds (λ c. omega arith) (λ c. omega arith) (λ c. omega arith)
-    (λ c. omega arith) sub-is-step-in sub-is-step-in-2 (λ c κs. tt) (λ c. omega arith) (λ c. omega arith) loop-again returns)
+    Inv-loop μ-loop (λ c κs. tt) (λ c κs. tt) (λ c κs. tt)
+    (λ c. (held (c .before .before .list-len .ensures), (omega arith, record { told = refl })))
+    (λ c. omega arith) (λ c. omega arith) (λ c. omega arith) (λ c. omega arith) sub-is-step-in sub-is-step-in-2 (λ c κs. tt)
+    (λ c. omega arith) (λ c. omega arith) loop-again returns)

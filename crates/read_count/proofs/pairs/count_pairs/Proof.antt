@@ -14,12 +14,6 @@ Inv-loop jef bytes table t₀ at₀ end t at = Tallying (pairFormat jef) bytes t
 abbrev μ-loop : tie.MeasureT-loop
 μ-loop jef bytes table t₀ at₀ end t at = length bytes - at
 
-loop-holds : tie.Need-loop-holds Inv-loop μ-loop
-loop-holds c = rw (c .before .none .ensures) (tallying-start (c .before .before .before .before .pre))
-
-slice-aggregate-pass-pair : tie.Need-slice-aggregate-pass-pair Inv-loop μ-loop
-slice-aggregate-pass-pair c = sym (c .before .before .before .before .before .kinds .ensures .long)
-
 pass-pair-requires : tie.Need-pass-pair-requires Inv-loop μ-loop
 pass-pair-requires c κs = (
   c .before .before .before .last-turn .ensures (c .before .before .loop .at) (c .before .loop-test .taken),
@@ -31,18 +25,12 @@ loop-less c =
     let l = c .before .before .before in
     omega (arith, c .before .pass-pair .ensures .1, l .before .before .last-turn .ensures (l .before .loop .at) (l .loop-test .taken))
 
-loop-again : tie.Need-loop-again Inv-loop μ-loop
-loop-again c = c .before .pass-pair .ensures .0
-
-count-rest-requires : tie.Need-count-rest-requires Inv-loop μ-loop
-count-rest-requires c κs = rw (c .format-of .ensures) (c .before .before .loop .inv)
-
-returns : tie.Need-returns Inv-loop μ-loop
-returns c = rw (c .before .format-of .ensures) at (c .count-rest .ensures)
-
 pub count-pairs-spec : {M : Type 1} → statement M
 count-pairs-spec =
     tie.close
     (tie.spec
-    Inv-loop μ-loop (λ c κs. tt) (λ c κs. tt) (λ c κs. omega arith) loop-holds slice-aggregate-pass-pair
-    pass-pair-requires loop-less loop-again (λ c κs. tt) count-rest-requires returns)
+    Inv-loop μ-loop (λ c κs. tt) (λ c κs. tt) (λ c κs. omega arith)
+    (λ c. rw (c .before .none .ensures) (tallying-start (c .before .before .before .before .pre)))
+    (λ c. sym (c .before .before .before .before .before .kinds .ensures .long)) pass-pair-requires loop-less
+    (λ c. c .before .pass-pair .ensures .0) (λ c κs. tt) (λ c κs. rw (c .format-of .ensures) (c .before .before .loop .inv))
+    (λ c. rw (c .before .format-of .ensures) at (c .count-rest .ensures)))

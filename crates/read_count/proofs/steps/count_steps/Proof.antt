@@ -14,29 +14,16 @@ Inv-loop bytes t₀ at₀ end t at = Tallying Pec bytes t at
 abbrev μ-loop : tie.MeasureT-loop
 μ-loop bytes t₀ at₀ end t at = length bytes - at
 
-loop-holds : tie.Need-loop-holds Inv-loop μ-loop
-loop-holds c = rw (c .before .none .ensures) (tallying-start (c .before .before .before .pre))
-
-pass-steps-requires : tie.Need-pass-steps-requires Inv-loop μ-loop
-pass-steps-requires c κs = (c .loop-test .taken, (c .before .before .last-turn .ensures, c .before .loop .inv))
-
 loop-less : tie.Need-loop-less Inv-loop μ-loop
 loop-less c =
     let l = c .before .before in
     omega (arith, c .before .pass-steps .ensures .1, l .before .before .last-turn .ensures (l .before .loop .at) (l .loop-test .taken))
 
-loop-again : tie.Need-loop-again Inv-loop μ-loop
-loop-again c = c .before .pass-steps .ensures .0
-
-count-rest-requires : tie.Need-count-rest-requires Inv-loop μ-loop
-count-rest-requires c κs = c .before .loop .inv
-
-returns : tie.Need-returns Inv-loop μ-loop
-returns c = c .count-rest .ensures
-
 pub count-steps-spec : {M : Type 1} → statement M
 count-steps-spec =
     tie.close
     (tie.spec
-    Inv-loop μ-loop (λ c κs. tt) (λ c κs. omega arith) loop-holds pass-steps-requires loop-less loop-again
-    count-rest-requires returns)
+    Inv-loop μ-loop (λ c κs. tt) (λ c κs. omega arith)
+    (λ c. rw (c .before .none .ensures) (tallying-start (c .before .before .before .pre)))
+    (λ c κs. (c .loop-test .taken, (c .before .before .last-turn .ensures, c .before .loop .inv))) loop-less
+    (λ c. c .before .pass-steps .ensures .0) (λ c κs. c .before .loop .inv) (λ c. c .count-rest .ensures))

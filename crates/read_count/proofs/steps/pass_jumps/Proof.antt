@@ -1,10 +1,12 @@
 -- One jump after the other, by `Jumps`.
-use mathlib.Core.Path.{sym, _∙_}
-use Prim.Native.Nat.{_-_, _≤_}
+use mathlib.Core.Path.{_≡_, sym}
+use Prim.Native.Nat.{_+_, _-_, _/_, _%_, _≤_}
 use native.Mathlib.Omega.{arith}
+use denote.Ref.{now}
+use lib.ListN.{length}
 use Rattle.rules.specs.declared.Format.the-variants.{Pec}
-use Rattle.read_count.specs.Tallies.{Jumps, none}
-use Rattle.read_count.proofs.Pecs.{jumps-more}
+use Rattle.read_passes.proofs.Found.{Word, hops-low}
+use Rattle.read_count.specs.Tallies.{Jumps, none, more}
 use Rattle.read_count.proofs.steps.pass_jumps.Statement.{statement}
 use Rattle.read_count.proofs.steps.pass_jumps.Tie as tie
 
@@ -14,56 +16,36 @@ Inv-loop bytes from end at₀ at = Jumps Pec bytes from at × (from ≤ at)
 abbrev μ-loop : tie.MeasureT-loop
 μ-loop bytes from end at₀ at = end - at
 
-loop-holds : tie.Need-loop-holds Inv-loop μ-loop
-loop-holds c = (none, omega arith)
-
-four-requires : tie.Need-four-requires Inv-loop μ-loop
-four-requires c κs = omega (arith, c .before .before .before .pre .1 (c .before .loop .at) (c .loop-test .taken))
-
-returns : tie.Need-returns Inv-loop μ-loop
-returns c = c .before .before .before .before .loop .inv
-
-returns-2 : tie.Need-returns-2 Inv-loop μ-loop
-returns-2 c = c .before .before .before .before .before .before .loop .inv
-
-add-at : tie.Need-add-at Inv-loop μ-loop
-add-at c =
-    let l = c .before .before .before .before .before in
-    omega (arith, l .before .before .before .pre .1 (l .before .loop .at) (l .loop-test .taken), l .before .before .before .pre .0)
-
-add-at-2 : tie.Need-add-at-2 Inv-loop μ-loop
-add-at-2 c =
-    let l = c .before .before .before .before .before .before in
-    omega (arith, l .before .before .before .pre .1 (l .before .loop .at) (l .loop-test .taken), l .before .before .before .pre .0, c .top .ensures)
+-- eight bytes are left in a turn
+room : (c : tie.In-loop Inv-loop μ-loop) → c .before .loop .at + 8 ≤ length (now (c .before .before .before .args .bytes))
+room c = c .before .before .before .pre .1 (c .before .loop .at) (c .loop-test .taken)
 
 add-at-3 : tie.Need-add-at-3 Inv-loop μ-loop
 add-at-3 c =
-    let l = c .before .before .before .before .before .before .before in
-    let h = l .before .before .before .pre .1 (l .before .loop .at) (l .loop-test .taken) in
-    omega (arith, h, l .before .before .before .pre .0, c .before .top .ensures, c .top2 .ensures)
-
-loop-less : tie.Need-loop-less Inv-loop μ-loop
-loop-less c = omega (arith, c .before .before .before .before .before .before .before .loop-test .taken)
+    let h = room (c .before .before .before .before .before .before .before) in
+    omega (arith, c .before .top .ensures, c .top2 .ensures)
 
 loop-again : tie.Need-loop-again Inv-loop μ-loop
 loop-again c =
-    let t = c .before .before .before .before in
-    let l = t .before .before .before in
-    let i = l .before .loop in (
-      jumps-more (i .inv .0) (λ k. omega (arith, l .before .before .shared-slice-known .given k))
-          (omega (arith, l .before .before .before .pre .1 (i .at) (l .loop-test .taken)))
-          _ _ (t .before .before .four .ensures) (t .before .past .ensures) (omega (arith, t .if1 .left))
-          (sym (c .before .before .before .sews .ensures) ∙ c .before .before .if2 .left)
-          _ (rw (c .before .top .ensures, c .top2 .ensures)),
-      omega (arith, i .inv .1),
-    )
-
-returns-3 : tie.Need-returns-3 Inv-loop μ-loop
-returns-3 c = c .before .loop .inv
+    let e = c .before .before in
+    let t = e .before .before .before .before .before in
+    let i = t .before .loop in
+    let f = e .before .before .before .before .four in
+    let y = e .before .before .before .past in
+    let w : Word (now (t .before .before .before .args .bytes)) (i .at) (f .result) =
+    record { low = t .before .before .shared-slice-known .given; room = room t; four = f .ensures } in
+    let n : i .at + 2 + c .before .top .result + c .top2 .result ≡ i .at + (2 + f .result / 128 % 2 + y .result / 128 % 2) =
+    omega (arith, c .before .top .ensures, c .top2 .ensures) in
+    let r = hops-low w (y .ensures) (e .before .sews .ensures) (omega arith) (e .if2 .left) in
+    (rw n (more (i .inv .0) (sym r)), omega (arith, i .inv .1))
 
 pub pass-jumps-spec : {M : Type 1} → statement M
 pass-jumps-spec =
     tie.close
     (tie.spec
-    Inv-loop μ-loop loop-holds four-requires (λ c κs. tt) returns (λ c κs. tt) returns-2 add-at (λ c κs. tt) add-at-2
-    (λ c κs. tt) add-at-3 loop-less loop-again returns-3)
+    Inv-loop μ-loop (λ c. (none, omega arith)) (λ c κs. let h = room c in omega arith) (λ c κs. tt)
+    (λ c. c .before .before .before .before .loop .inv) (λ c κs. tt) (λ c. c .before .before .before .before .before .before .loop .inv)
+    (λ c. let h = room (c .before .before .before .before .before) in omega arith) (λ c κs. tt)
+    (λ c. let h = room (c .before .before .before .before .before .before) in omega (arith, c .top .ensures)) (λ c κs. tt) add-at-3
+    (λ c. omega (arith, c .before .before .before .before .before .before .before .loop-test .taken)) loop-again
+    (λ c. c .before .loop .inv))

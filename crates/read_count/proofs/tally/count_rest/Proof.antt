@@ -13,24 +13,6 @@ Inv-loop f bytes from t₀ at₀ t at = Tallying f bytes t at
 abbrev μ-loop : tie.MeasureT-loop
 μ-loop f bytes from t₀ at₀ t at = length bytes - at
 
-loop-holds : tie.Need-loop-holds Inv-loop μ-loop
-loop-holds c = c .before .pre
-
-pass-requires : tie.Need-pass-requires Inv-loop μ-loop
-pass-requires c κs = (c .before .loop .inv, c .loop-test .taken)
-
-loop-less : tie.Need-loop-less Inv-loop μ-loop
-loop-less c = omega (arith, c .before .pass .ensures .1, c .before .before .loop-test .taken)
-
-loop-again : tie.Need-loop-again Inv-loop μ-loop
-loop-again c = c .before .pass .ensures .0
-
-tally-change-requires : tie.Need-tally-change-requires Inv-loop μ-loop
-tally-change-requires c κs = tallying-small (c .before .loop .inv)
-
-counts-requires : tie.Need-counts-requires Inv-loop μ-loop
-counts-requires c κs = rw (c .tally-change .ensures) (change-small (c .before .before .loop .inv), change-fewer (c .before .before .loop .inv))
-
 returns : tie.Need-returns Inv-loop μ-loop
 returns c =
     let k = rw (c .before .tally-change .ensures) at (c .counts .ensures) in
@@ -40,4 +22,7 @@ pub count-rest-spec : {M : Type 1} → statement M
 count-rest-spec =
     tie.close
     (tie.spec
-    Inv-loop μ-loop loop-holds pass-requires loop-less loop-again tally-change-requires counts-requires returns)
+    Inv-loop μ-loop (λ c. c .before .pre) (λ c κs. (c .before .loop .inv, c .loop-test .taken))
+    (λ c. omega (arith, c .before .pass .ensures .1, c .before .before .loop-test .taken)) (λ c. c .before .pass .ensures .0)
+    (λ c κs. tallying-small (c .before .loop .inv))
+    (λ c κs. let g = c .before .before .loop .inv in rw (c .tally-change .ensures) (change-small g, change-fewer g)) returns)

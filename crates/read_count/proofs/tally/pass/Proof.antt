@@ -1,66 +1,46 @@
 -- Each kind of record by its law.
-use mathlib.Core.Path.{sym, _∙_}
+use Prim.Native.Nat.{ℕ, _+_, _≤_, _<_}
+use mathlib.Core.Path.{_≡_, refl, sym, _∙_}
 use denote.Ref.{now}
 use native.Mathlib.Omega.{arith}
-use Rattle.read_passes.proofs.Loops.{later}
-use Rattle.read_count.proofs.Laws.{tallying-small, tallying-stays, tallying-stitch, tallying-jump, tallying-change, tallying-end}
+use lib.ListN.{length, drop}
+use Rattle.rules.specs.declared.Record.{Record}
+use Rattle.read_records.specs.Firsts.{firstOf}
+use Rattle.read_records.specs.Fields.{lenOf}
+use Rattle.read_builder.specs.Builders.{placeAfter}
+use Rattle.read_count.specs.Tallies.{Tallying}
+use Rattle.read_count.specs.declared.tally.Tally.{Tally}
+use Rattle.read_count.proofs.Laws.{talliedBy, tallying-small, tallying-stays, passed}
 use borrow.Author.Needs.{needs}
 use Rattle.read_count.proofs.tally.pass.Statement.{statement}
 use Rattle.read_count.proofs.tally.pass.Tie as tie
 
-tally-one-requires : tie.Need-tally-one-requires
-tally-one-requires c κs = (tallying-small (c .before .before .before .before .before .pre .0), omega arith)
+-- the record there is r
+here : (c : tie.After-record-at) {r : Record} → c .record-at .result ≡ r
+    → firstOf (c .before .before .args .f) (drop (c .before .before .args .at) (now (c .before .before .args .bytes))) ≡ r
+here c e = sym (c .record-at .ensures) ∙ e
 
-add-t11 : tie.Need-add-t11
-add-t11 c =
-    let s = c .before .before .before .before .before .before in
-    let e = sym (c .before .before .len .given .1) ∙ c .before .before .before .before .record-at .ensures in
-    omega (arith, tallying-stays (s .pre .0) e, s .pre .0 .short)
+-- and ends in the bytes
+ends : (c : tie.After-record-at) {r : Record} → c .record-at .result ≡ r → c .before .before .args .at + lenOf r ≤ 2097152
+ends c e = let g = c .before .before .pre .0 in omega (arith, tallying-stays g (here c e), g .short)
 
-tally-one-requires-2 : tie.Need-tally-one-requires-2
-tally-one-requires-2 c κs = (tallying-small (c .before .before .before .before .before .pre .0), omega arith)
-
-add-t13 : tie.Need-add-t13
-add-t13 c =
-    let s = c .before .before .before .before .before .before in
-    let e = sym (c .before .before .len2 .given .1) ∙ c .before .before .before .before .record-at .ensures in
-    omega (arith, tallying-stays (s .pre .0) e, s .pre .0 .short)
-
-tally-change-requires : tie.Need-tally-change-requires
-tally-change-requires c κs = tallying-small (c .before .before .before .before .before .pre .0)
-
-add-t15 : tie.Need-add-t15
-add-t15 c =
-    let s = c .before .before .before .before .before .before in
-    let e = sym (c .before .before .len3 .given .1) ∙ c .before .before .before .before .record-at .ensures in
-    omega (arith, tallying-stays (s .pre .0) e, s .pre .0 .short)
-
-returns : tie.Need-returns
-returns c =
-    let s = c .before .before .before .before .before .before in
-    let e = sym (c .before .before .len .given .1) ∙ c .before .before .before .before .record-at .ensures in
-    (rw (c .tally-one .ensures) (tallying-stitch (s .pre .0) e), later (s .args .f) (now (s .args .bytes)) (s .args .at) e (s .pre .1))
-
-returns-2 : tie.Need-returns-2
-returns-2 c =
-    let s = c .before .before .before .before .before .before in
-    let e = sym (c .before .before .len2 .given .1) ∙ c .before .before .before .before .record-at .ensures in
-    (rw (c .tally-one2 .ensures) (tallying-jump (s .pre .0) e), later (s .args .f) (now (s .args .bytes)) (s .args .at) e (s .pre .1))
-
-returns-3 : tie.Need-returns-3
-returns-3 c =
-    let s = c .before .before .before .before .before .before in
-    let e = sym (c .before .before .len3 .given .1) ∙ c .before .before .before .before .record-at .ensures in
-    (rw (c .tally-change .ensures) (tallying-change (s .pre .0) e), later (s .args .f) (now (s .args .bytes)) (s .args .at) e (s .pre .1))
-
-returns-4 : tie.Need-returns-4
-returns-4 c =
-    let s = c .before .before .before .before in (tallying-end (s .pre .0) (sym (c .enum-told .given .1) ∙ c .before .before .record-at .ensures), s .pre .1)
+-- what a record of kind r makes of the tally
+makes : (c : tie.After-record-at) {r : Record} → c .record-at .result ≡ r → {t : Tally} → t ≡ talliedBy r (c .before .before .args .t)
+    → {j : ℕ} → j ≡ placeAfter r (c .before .before .args .at) (length (now (c .before .before .args .bytes)))
+    → Tallying (c .before .before .args .f) (now (c .before .before .args .bytes)) t j × (c .before .before .args .at < j)
+makes c e et ej = let p = c .before .before .pre in passed (p .0) (p .1) (here c e) et ej
 
 pub pass-spec : {M : Type 1} → statement M
 pass-spec =
     tie.close
     (tie.spec
-    (λ c κs. search needs) (λ c. search needs) tally-one-requires add-t11 (λ c. search needs) tally-one-requires-2
-    add-t13 (λ c. search needs) tally-change-requires add-t15 (λ c. search needs) returns returns-2 returns-3
-    returns-4)
+    (λ c κs. search needs) (λ c. search needs) (λ c κs. (tallying-small (c .before .before .before .before .before .pre .0), omega arith))
+    (λ c. let h = ends (c .before .before .before .before) (c .before .before .len .given .1) in omega arith) (λ c. search needs)
+    (λ c κs. (tallying-small (c .before .before .before .before .before .pre .0), omega arith))
+    (λ c. let h = ends (c .before .before .before .before) (c .before .before .len2 .given .1) in omega arith) (λ c. search needs)
+    (λ c κs. tallying-small (c .before .before .before .before .before .pre .0))
+    (λ c. let h = ends (c .before .before .before .before) (c .before .before .len3 .given .1) in omega arith) (λ c. search needs)
+    (λ c. makes (c .before .before .before .before) (c .before .before .len .given .1) (c .tally-one .ensures) refl)
+    (λ c. makes (c .before .before .before .before) (c .before .before .len2 .given .1) (c .tally-one2 .ensures) refl)
+    (λ c. makes (c .before .before .before .before) (c .before .before .len3 .given .1) (c .tally-change .ensures) refl)
+    (λ c. makes (c .before .before) (c .enum-told .given .1) refl refl))

@@ -10,9 +10,5 @@ add-t3 : tie.Need-add-t3
 add-t3 c =
     let a = c .before .before .args in rw (c .before .differ .ensures) (omega (arith, bit-le (eqb (a .t .runs) (a .t .first)), c .before .before .pre .blocks))
 
-returns : tie.Need-returns
-returns c = rw (c .before .differ .ensures)
-
 pub tally-change-spec : {M : Type 1} → statement M
-tally-change-spec = tie.close (tie.spec
-    (λ c κs. search needs) add-t3 returns)
+tally-change-spec = tie.close (tie.spec (λ c κs. search needs) add-t3 (λ c. rw (c .before .differ .ensures)))

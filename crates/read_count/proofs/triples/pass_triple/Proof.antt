@@ -1,17 +1,16 @@
 -- Each case by its law.
 use Prim.Native.Nat.{_+_}
+use mathlib.Core.Path.{refl}
 use denote.Ref.{now}
 use lib.ListN.{getD}
 use Rattle.rules.specs.Dst.{under}
 use native.Mathlib.Omega.{arith}
-use Rattle.read_count.proofs.Laws.{bit-le, tallying-small}
-use Rattle.read_count.proofs.Dsts.{is-under, not-under, triple-four, triple-end, triple-change, triple-other}
+use Rattle.read_passes.proofs.Found.{has, lacks, triple-end, triple-change}
+use Rattle.read_count.proofs.Laws.{bit-le, tallying-small, passed}
+use Rattle.read_count.proofs.Dsts.{here, triple-four, triple-other}
 use borrow.Author.Needs.{needs}
 use Rattle.read_count.proofs.triples.pass_triple.Statement.{statement}
 use Rattle.read_count.proofs.triples.pass_triple.Tie as tie
-
-tally-many-requires : tie.Need-tally-many-requires
-tally-many-requires c κs = (tallying-small (c .before .before .before .before .before .before .pre .1), omega arith)
 
 returns : tie.Need-returns
 returns c =
@@ -21,15 +20,15 @@ returns c =
 returns-2 : tie.Need-returns-2
 returns-2 c =
     let s = c .before .before .before .before .before .before .before in
-    (triple-end (s .pre .1) (s .pre .0) (is-under _ _ (c .if2 .taken)), omega (arith, s .pre .0))
-
-tally-change-requires : tie.Need-tally-change-requires
-tally-change-requires c κs = tallying-small (c .before .before .before .before .before .before .before .before .pre .1)
+    let g = here (s .pre .1) (s .pre .0) in
+    passed (s .pre .1) (omega arith) (triple-end g (has _ _ (c .if2 .taken))) refl refl
 
 returns-3 : tie.Need-returns-3
 returns-3 c =
     let s = c .before .before .before .before .before .before .before .before .before in
-    (rw (c .tally-change .ensures) (triple-change (s .pre .1) (s .pre .0) (not-under _ _ (c .before .before .if2 .left)) (is-under _ _ (c .before .if3 .taken))), omega arith)
+    let g = here (s .pre .1) (s .pre .0) in
+    let e = triple-change g (lacks _ _ (c .before .before .if2 .left)) (has _ _ (c .before .if3 .taken)) in
+    passed (s .pre .1) (omega arith) e (c .tally-change .ensures) refl
 
 tally-one-requires : tie.Need-tally-one-requires
 tally-one-requires c κs =
@@ -38,17 +37,17 @@ tally-one-requires c κs =
 
 returns-4 : tie.Need-returns-4
 returns-4 c =
-    let s = c .before .before .before .before .before .before .before .before .before .before in (
-      rw (c .tally-one .ensures, c .before .sews .ensures)
-          (triple-other (s .pre .1) (s .pre .0) (not-under _ _ (c .before .before .before .if2 .left)) (not-under _ _ (c .before .before .if3 .left))),
-      omega arith,
-    )
+    let s = c .before .before .before .before .before .before .before .before .before .before in
+    let e = c .before .before in
+    let t = triple-other (s .pre .1) (s .pre .0) (lacks _ _ (e .before .if2 .left)) (lacks _ _ (e .if3 .left)) in
+    (rw (c .tally-one .ensures, c .before .sews .ensures) t, omega arith)
 
 pub pass-triple-spec : {M : Type 1} → statement M
 pass-triple-spec =
     tie.close
     (tie.spec
-    (λ c. search needs) (λ c. search needs) (λ c. search needs) (λ c. search needs) (λ c. search needs)
-    (λ c. search needs) (λ c. search needs) (λ c. search needs) tally-many-requires (λ c. search needs) returns
-    returns-2 tally-change-requires (λ c. search needs) returns-3 (λ c κs. search needs) tally-one-requires
-    (λ c. search needs) returns-4)
+    (λ c. search needs) (λ c. search needs) (λ c. search needs) (λ c. search needs) (λ c. search needs) (λ c. search needs)
+    (λ c. search needs) (λ c. search needs)
+    (λ c κs. (tallying-small (c .before .before .before .before .before .before .pre .1), omega arith)) (λ c. search needs) returns
+    returns-2 (λ c κs. tallying-small (c .before .before .before .before .before .before .before .before .pre .1)) (λ c. search needs)
+    returns-3 (λ c κs. search needs) tally-one-requires (λ c. search needs) returns-4)

@@ -1,63 +1,68 @@
 -- Two stitches, by the mask.
 use Prim.Native.Nat.{_+_}
+use mathlib.Core.Path.{_≡_}
 use native.Mathlib.Omega.{arith}
 use denote.Ref.{now}
-use mir.Syntax.{w32}
-use Rattle.laws.specs.Ints.{ret}
-use Rattle.read_fill.proofs.Hops.{below, here-short, can-one, can-two, both-sewn}
+use lib.ListN.{drop}
+use Rattle.rules.specs.declared.Record.the-variants.{StitchBy}
+use Rattle.rules.specs.declared.Format.the-variants.{Pec}
+use Rattle.read_records.specs.Firsts.{firstOf}
+use Rattle.read_passes.proofs.Turns.{read, reads}
+use Rattle.read_fill.proofs.Laws.{can-sew, can-again, turn-twice}
+use Rattle.read_passes.proofs.Found.{Short, here-short}
 use borrow.Author.Needs.{needs}
 use Rattle.read_fill.proofs.steps.sew_short.Statement.{statement}
 use Rattle.read_fill.proofs.steps.sew_short.Tie as tie
 
-sew-requires : tie.Need-sew-requires
-sew-requires c κs =
-    let s = c .before .before .before .before .before .before in
-    let a = s .args in
-    let low = below (now (a .bytes)) (c .before .before .before .before .before .shared-slice-known .given) in
-    let t = here-short (now (a .bytes)) (a .at) low (s .pre .1 .0) (s .pre .1 .1 .0) in
-    let u = c .before .before .before .first-of in
-    let v = c .before .first-of2 in
-    rw (ret w32 (u .result) (u .ok), u .ensures, ret w32 (v .result) (v .ok), v .ensures) (can-one (now (a .bytes)) t (s .pre .1 .1 .1))
+abbrev start : tie.After-sew → tie.Start
+start c = c .before .before .before .before .before .before .before
+
+both : (c : tie.After-shared-slice-known) → Short (now (c .before .args .bytes)) (c .before .args .at)
+both c = here-short _ _ (c .shared-slice-known .given) (c .before .pre .1 .0) (c .before .pre .1 .1 .0)
+
+-- each by the steps that the code reads
+one : (c : tie.After-first-of2) → let u = c .before .before .first-of .result in
+    let a = c .before .before .before .before .before .args in
+    firstOf Pec (drop (a .at) (now (a .bytes))) ≡ StitchBy (read u) (read (c .first-of2 .result)) 2
+one c =
+    let u = c .before .before .first-of in
+    let v = c .first-of2 in
+    rw (reads (u .ok) (u .ensures), reads (v .ok) (v .ensures)) (both (c .before .before .before .before) .one)
+
+two : (c : tie.After-first-of4) → let u = c .before .before .first-of3 .result in
+    let a = start (c .before .before .before .before .before) .args in
+    firstOf Pec (drop (a .at + 2) (now (a .bytes))) ≡ StitchBy (read u) (read (c .first-of4 .result)) 2
+two c =
+    let m = c .before .before .before .before .before in
+    let u = c .before .before .first-of3 in
+    let v = c .first-of4 in
+    rw (reads (u .ok) (u .ensures), reads (v .ok) (v .ensures)) (both (m .before .before .before .before .before .before) .two)
 
 sew-requires-2 : tie.Need-sew-requires-2
 sew-requires-2 c κs =
-    let mid = c .before .before .before .before .before .before in
-    let s = mid .before .before .before .before .before .before .before in
-    let a = s .args in
-    let low = below (now (a .bytes)) (mid .before .before .before .before .before .before .shared-slice-known .given) in
-    let t = here-short (now (a .bytes)) (a .at) low (s .pre .1 .0) (s .pre .1 .1 .0) in
-    let u = mid .before .before .before .before .first-of in
-    let v = mid .before .before .first-of2 in
-    let p = c .before .before .before .first-of3 in
-    let q = c .before .first-of4 in
-    let w = rw (ret w32 (u .result) (u .ok), u .ensures, ret w32 (v .result) (v .ok), v .ensures) at (mid .sew .ensures) in
-    rw (ret w32 (p .result) (p .ok), p .ensures, ret w32 (q .result) (q .ok), q .ensures)
-    (can-two (now (a .bytes)) t (w .0) (now (a .places)) (w .1) (s .pre .1 .1 .1))
+    let m = c .before .before .before .before .before .before in
+    let s = start m in
+    can-again (one (m .before .before)) (now (s .args .places)) (m .sew .ensures) (two (c .before)) (s .pre .1 .1 .1 .ready)
 
 add-t13 : tie.Need-add-t13
 add-t13 c =
-    let s = c .before .before .before .before .before .before .before .before .before .before .before .before .before .before .before in
+    let m = c .before .before .before .before .before .before .before .before in
+    let s = start m in
     omega (arith, s .pre .1 .0, s .pre .1 .1 .1 .ready .short)
 
 returns : tie.Need-returns
-returns c =
-    let mid = c .before .before .before .before .before .before .before in
-    let s = mid .before .before .before .before .before .before .before .before in
-    let a = s .args in
-    let low = below (now (a .bytes)) (mid .before .before .before .before .before .before .before .shared-slice-known .given) in
-    let t = here-short (now (a .bytes)) (a .at) low (s .pre .1 .0) (s .pre .1 .1 .0) in
-    let u = mid .before .before .before .before .before .first-of in
-    let v = mid .before .before .before .first-of2 in
-    let p = c .before .before .before .before .before .first-of3 in
-    let q = c .before .before .before .first-of4 in
-    let w = rw (ret w32 (u .result) (u .ok), u .ensures, ret w32 (v .result) (v .ok), v .ensures) at (mid .before .sew .ensures) in
-    let z = rw (ret w32 (p .result) (p .ok), p .ensures, ret w32 (q .result) (q .ok), q .ensures) at (c .before .sew2 .ensures) in
-    both-sewn (now (a .bytes)) t (w .0) (now (a .places)) (w .1) (omega (arith, s .pre .1 .0)) (z .0) (z .1) (a .at + 4) (omega arith)
+returns c k R B =
+    let m = c .before .before .before .before .before .before .before .before in
+    let s = start m in
+    let h = s .pre .1 .0 in
+    let e = two (c .before .before .before) in
+    turn-twice (one (m .before .before)) (now (s .args .places)) (m .sew .ensures) e (omega arith) (c .before .sew2 .ensures) (omega arith)
 
 pub sew-short-spec : {M : Type 1} → statement M
 sew-short-spec =
     tie.close
     (tie.spec
-    (λ c. search needs) (λ c κs. search needs) (λ c. search needs) (λ c. search needs) (λ c κs. search needs) sew-requires
-    (λ c. search needs) (λ c. search needs) (λ c κs. search needs) (λ c. search needs) (λ c. search needs) (λ c κs. search needs)
-    sew-requires-2 add-t13 (λ c. search needs) returns)
+    (λ c. search needs) (λ c κs. search needs) (λ c. search needs) (λ c. search needs) (λ c κs. search needs)
+    (λ c κs. can-sew (c .before .before .before .before .before .before .pre .1 .1 .1 .ready) (one (c .before))) (λ c. search needs)
+    (λ c. search needs) (λ c κs. search needs) (λ c. search needs) (λ c. search needs) (λ c κs. search needs) sew-requires-2 add-t13
+    (λ c. search needs) returns)

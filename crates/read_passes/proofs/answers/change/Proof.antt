@@ -1,33 +1,18 @@
 -- The step is added to the place.
-use mir.Facts.{toZ-ofZ}
-use mir.Syntax.{w32}
-use Rattle.laws.specs.Ints.{ret}
-use Rattle.read_builder.proofs.Places.{kept}
+use Rattle.read_passes.proofs.Turns.{summed}
 use borrow.Author.Needs.{needs}
 use Rattle.read_passes.proofs.answers.change.Statement.{statement}
 use Rattle.read_passes.proofs.answers.change.Tie as tie
 
 returns : tie.Need-returns
 returns c =
-    let close = c .before .before .before .before .before .close in
-    let v = c .before .before .before .before .before .before .before .before .sum2 in
-    let u = c .before .before .before .before .before .before .before .before .before .before .sum in
-    let early = c .before .before .before .before .before .before .before .before .before .before .before .before in
-    let s = early .before .before .before in
-    let w = close .ensures in (
-      rw (
-        c .color-change .ensures,
-        ret w32 (u .result) (u .ok),
-        u .ensures,
-        kept (s .args .b .x) (s .pre .0 .x),
-        toZ-ofZ (s .fits .dx),
-        ret w32 (v .result) (v .ok),
-        v .ensures,
-        kept (s .args .b .y) (s .pre .0 .y),
-        toZ-ofZ (s .fits .dy),
-      ),
-      (w .0, w .1),
-    )
+    let w = c .before .before .before .before .before .close .ensures in
+    let k = c .before .before .before .before .before .before .before .before in
+    let u = k .before .before .sum in
+    let s = k .before .before .before .before .before .before .before in
+    let at-x = summed (s .args .b .x) (u .ok) (u .ensures) (s .pre .0 .x) (s .fits .dx) in
+    let at-y = summed (s .args .b .y) (k .sum2 .ok) (k .sum2 .ensures) (s .pre .0 .y) (s .fits .dy) in
+    (rw (c .color-change .ensures, at-x, at-y), (w .0, w .1))
 
 pub change-spec : {M : Type 1} → statement M
 change-spec =

@@ -1,52 +1,29 @@
 -- The step is added to the place.
-use mir.Facts.{toZ-ofZ}
-use mir.Syntax.{w32}
-use Rattle.laws.specs.Ints.{ret}
-use Rattle.read_builder.proofs.Places.{kept}
-use mathlib.Core.Path.{refl}
-use borrow.Author.Tests.{eqb-true}
+use mathlib.Core.Path.{_≡_}
+use lib.IntN.{_+ℤ_}
 use Rattle.rules.specs.Answers.{runOf}
+use Rattle.read_passes.proofs.Turns.{read, summed}
 use borrow.Author.Needs.{needs}
 use Rattle.read_passes.proofs.answers.hop.Statement.{statement}
 use Rattle.read_passes.proofs.answers.hop.Tie as tie
 
+sums : (c : tie.After-sum2) → let a = c .before .before .before .before .before .args in
+    (read (c .before .before .sum .result) ≡ a .b .x +ℤ a .dx) × (read (c .sum2 .result) ≡ a .b .y +ℤ a .dy)
+sums c =
+    let s = c .before .before .before .before .before in
+    let u = c .before .before .sum in
+    let v = c .sum2 in
+    let b = s .args .b in
+    (summed (b .x) (u .ok) (u .ensures) (s .pre .0 .x) (s .fits .dx), summed (b .y) (v .ok) (v .ensures) (s .pre .0 .y) (s .fits .dy))
+
 returns : tie.Need-returns
 unfolding runOf
-returns c =
-    let v = c .before .before .before .sum2 in let u = c .before .before .before .before .before .sum in
-    let s = c .before .before .before .before .before .before .before .before in (
-      rw (
-        c .jump .ensures,
-        ret w32 (u .result) (u .ok),
-        u .ensures,
-        kept (s .args .b .x) (s .pre .0 .x),
-        toZ-ofZ (s .fits .dx),
-        ret w32 (v .result) (v .ok),
-        v .ensures,
-        kept (s .args .b .y) (s .pre .0 .y),
-        toZ-ofZ (s .fits .dy),
-      ),
-      rw (c .before .if1 .taken),
-    )
+returns c = let k = sums (c .before .before .before) in (rw (c .jump .ensures, k .0, k .1), rw (c .before .if1 .taken))
 
 returns-2 : tie.Need-returns-2
 returns-2 c =
-    let put-run = c .before .before .before .put-run in let v = c .before .before .before .before .before .before .before .sum2 in
-    let u = c .before .before .before .before .before .before .before .before .before .sum in
-    let s = c .before .before .before .before .before .before .before .before .before .before .before .before in (
-      rw (
-        c .jump2 .ensures,
-        ret w32 (u .result) (u .ok),
-        u .ensures,
-        kept (s .args .b .x) (s .pre .0 .x),
-        toZ-ofZ (s .fits .dx),
-        ret w32 (v .result) (v .ok),
-        v .ensures,
-        kept (s .args .b .y) (s .pre .0 .y),
-        toZ-ofZ (s .fits .dy),
-      ),
-      put-run .ensures,
-    )
+    let k = sums (c .before .before .before .before .before .before .before) in
+    (rw (c .jump2 .ensures, k .0, k .1), c .before .before .before .put-run .ensures)
 
 pub hop-spec : {M : Type 1} → statement M
 hop-spec =

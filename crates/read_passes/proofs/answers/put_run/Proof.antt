@@ -8,10 +8,11 @@ use borrow.Author.Needs.{needs}
 use Rattle.read_passes.proofs.answers.put_run.Statement.{statement}
 use Rattle.read_passes.proofs.answers.put_run.Tie as tie
 
-returns : tie.Need-returns
-unfolding runOf
-returns c = rw (c .if1 .taken)
-
 pub put-run-spec : {M : Type 1} → statement M
-put-run-spec = tie.close (tie.spec returns (λ c. search needs) (λ c. search needs) (λ c. omega (arith, ap length (in-run _ (c .before .if1 .left) .run)))
-    (λ c. search needs) (λ c. rw (in-run _ (c .before .if1 .left) .run)))
+unfolding runOf
+put-run-spec =
+    tie.close
+    (tie.spec
+    (λ c. search needs) (λ c. search needs) (λ c. search needs)
+    (λ c. omega (arith, ap length (in-run _ (c .before .if1 .left) .run))) (λ c. search needs)
+    (λ c. rw (in-run _ (c .before .if1 .left) .run)))

@@ -1,26 +1,13 @@
 -- A number in two's complement: the sum and the remainder shift it.
 use native.Mathlib.Omega.{arith}
-use Prim.Native.Nat.{_+_, _%_, _^_, _<_}
-use mir.Syntax.{w32}
-use mir.Facts.{toZ-ofZ, toZ-pos}
-use Rattle.rules.specs.Vocabulary.{signed}
-use Rattle.laws.specs.Twos.{shifted}
-use Rattle.read_records.proofs.Signs.{signed-size, small-fits}
+use Rattle.read_records.proofs.Signs.{shift-fits, shift-is}
 use borrow.Author.Needs.{needs}
 use Rattle.read_records.proofs.bytes.signed12.Statement.{statement}
 use Rattle.read_records.proofs.bytes.signed12.Tie as tie
 
-sub-result : tie.Need-sub-result
-sub-result c =
-    let b = c .args .v in
-    let h : (b + 2048) % 4096 < 2 ^ 31 = omega arith in
-    rw (toZ-pos w32 h, shifted 11 b (omega arith)) (small-fits (signed 11 b) (omega (arith, signed-size 11 b)))
-
-returns : tie.Need-returns
-returns c =
-    let b = c .args .v in
-    let h : (b + 2048) % 4096 < 2 ^ 31 = omega arith in
-    rw (toZ-pos w32 h, shifted 11 b (omega arith)) (toZ-ofZ (small-fits (signed 11 b) (omega (arith, signed-size 11 b))))
-
 pub signed12-spec : {M : Type 1} → statement M
-signed12-spec = tie.close (tie.spec (λ c. search needs) (λ c. search needs) sub-result returns)
+signed12-spec =
+    tie.close
+    (tie.spec
+    (λ c. search needs) (λ c. search needs) (λ c. shift-fits 11 (c .args .v) (omega arith) (omega arith) (omega arith))
+    (λ c. shift-is 11 (c .args .v) (omega arith) (omega arith) (omega arith)))

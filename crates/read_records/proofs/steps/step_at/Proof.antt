@@ -1,6 +1,7 @@
 -- The step by the tests that the code makes.
 use native.Mathlib.Omega.{arith}
-use Prim.Native.Nat.{_+_}
+use Prim.Native.Nat.{_+_, _<_}
+use lib.ListN.{getD}
 use mathlib.Core.Path.{sym}
 use denote.Ref.{now}
 use mir.Syntax.{w32}
@@ -10,60 +11,30 @@ use borrow.Author.Needs.{needs}
 use Rattle.read_records.proofs.steps.step_at.Statement.{statement}
 use Rattle.read_records.proofs.steps.step_at.Tie as tie
 
-returns : tie.Need-returns
-returns c = let a = c .before .before .args in sym (axis-end (now (a .file)) (a .at) (omega arith))
+small : (c : tie.After-shared-slice-known3) →
+    (let a = c .before .before .before .before .before .before .args in
+    (getD (now (a .file)) (a .at) 0 < 256) × (getD (now (a .file)) (a .at + 1) 0 < 256))
+small c = let i = c .before .before .before .before .before .before .args .at in
+    (omega (arith, c .shared-slice-known3 .given i), omega (arith, c .shared-slice-known3 .given (i + 1)))
 
 returns-2 : tie.Need-returns-2
 returns-2 c =
     let a = c .before .before .before .before .before .args in
     rw (ret w32 (c .signed7 .result) (c .signed7 .ok), c .signed7 .ensures) (sym (axis-short (now (a .file)) (a .at) (omega arith) (c .before .if2 .taken)))
 
-returns-3 : tie.Need-returns-3
-returns-3 c =
-    let a = c .before .before .before .before .before .args in
-    sym (axis-cut (now (a .file)) (a .at) (omega arith) (c .before .if2 .left) (omega arith))
-
-cast-signed12 : tie.Need-cast-signed12
-cast-signed12 c =
-    omega (
-      arith,
-      c .shared-slice-known3 .given (c .before .before .before .before .before .before .args .at),
-      c .shared-slice-known3 .given (c .before .before .before .before .before .before .args .at + 1),
-    )
-
-cast-signed12-2 : tie.Need-cast-signed12-2
-cast-signed12-2 c =
-    omega (
-      arith,
-      c .shared-slice-known3 .given (c .before .before .before .before .before .before .args .at),
-      c .shared-slice-known3 .given (c .before .before .before .before .before .before .args .at + 1),
-    )
-
-add-signed12 : tie.Need-add-signed12
-add-signed12 c =
-    omega (
-      arith,
-      c .shared-slice-known3 .given (c .before .before .before .before .before .before .args .at),
-      c .shared-slice-known3 .given (c .before .before .before .before .before .before .args .at + 1),
-    )
-
-signed12-requires : tie.Need-signed12-requires
-signed12-requires c κs =
-    omega (
-      arith,
-      c .shared-slice-known3 .given (c .before .before .before .before .before .before .args .at),
-      c .shared-slice-known3 .given (c .before .before .before .before .before .before .args .at + 1),
-    )
-
 returns-4 : tie.Need-returns-4
 returns-4 c =
-    let if2 = c .before .before .before .if2 in let start = c .before .before .before .before .before .before .before in
-    let a = start .args in
-    rw (ret w32 (c .signed12 .result) (c .signed12 .ok), c .signed12 .ensures) (sym (axis-long (now (a .file)) (a .at) (omega arith) (if2 .left)))
+    let a = c .before .before .before .before .before .before .before .args in
+    rw (ret w32 (c .signed12 .result) (c .signed12 .ok), c .signed12 .ensures)
+    (sym (axis-long (now (a .file)) (a .at) (omega arith) (c .before .before .before .if2 .left)))
 
 pub step-at-spec : {M : Type 1} → statement M
 step-at-spec =
     tie.close
     (tie.spec
-    returns (λ c. search needs) (λ c κs. search needs) returns-2 (λ c. search needs) returns-3 (λ c. search needs)
-    (λ c. search needs) cast-signed12 (λ c. search needs) cast-signed12-2 add-signed12 signed12-requires returns-4)
+    (λ c. let a = c .before .before .args in sym (axis-end (now (a .file)) (a .at) (omega arith))) (λ c. search needs)
+    (λ c κs. search needs) returns-2 (λ c. search needs)
+    (λ c. let a = c .before .before .before .before .before .args in
+    sym (axis-cut (now (a .file)) (a .at) (omega arith) (c .before .if2 .left) (omega arith)))
+    (λ c. search needs) (λ c. search needs) (λ c. omega (arith, small c)) (λ c. search needs) (λ c. omega (arith, small c))
+    (λ c. omega (arith, small c)) (λ c κs. omega (arith, small c)) returns-4)

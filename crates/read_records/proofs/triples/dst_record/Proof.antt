@@ -9,25 +9,18 @@ use borrow.Author.Needs.{needs}
 use Rattle.read_records.proofs.triples.dst_record.Statement.{statement}
 use Rattle.read_records.proofs.triples.dst_record.Tie as tie
 
-returns : tie.Need-returns
-returns c = let a = c .before .before .args in sym (dst-short (now (a .file)) (a .at) (omega arith))
-
-returns-2 : tie.Need-returns-2
-returns-2 c = let a = c .before .before .before .args in sym (dst-short (now (a .file)) (a .at) (omega arith))
-
 returns-3 : tie.Need-returns-3
 returns-3 c =
-    let dy = c .before .dst-dy in
-    let dx = c .before .before .before .dst-dx in
-    let start = c .before .before .before .before .before .before .before .before .before .before .before .before .before in
-    let a = start .args in
-    rw (c .kind .ensures, ret w32 (dx .result) (dx .ok), dx .ensures, ret w32 (dy .result) (dy .ok), dy .ensures)
+    let a = c .before .before .before .before .before .before .before .before .before .before .before .before .before .args in
+    let x = c .before .before .before .dst-dx in let y = c .before .dst-dy in
+    rw (c .kind .ensures, ret w32 (x .result) (x .ok), x .ensures, ret w32 (y .result) (y .ok), y .ensures)
     (sym (dst-whole (now (a .file)) (a .at) (omega arith)))
 
 pub dst-record-spec : {M : Type 1} → statement M
 dst-record-spec =
     tie.close
     (tie.spec
-    returns (λ c. search needs) returns-2 (λ c. search needs) (λ c. search needs) (λ c. search needs)
-    (λ c. search needs) (λ c. search needs) (λ c κs. search needs) (λ c κs. search needs) (λ c. search needs)
-    (λ c κs. search needs) (λ c. search needs) (λ c κs. search needs) (λ c κs. search needs) returns-3)
+    (λ c. let a = c .before .before .args in sym (dst-short (now (a .file)) (a .at) (omega arith))) (λ c. search needs)
+    (λ c. let a = c .before .before .before .args in sym (dst-short (now (a .file)) (a .at) (omega arith))) (λ c. search needs)
+    (λ c. search needs) (λ c. search needs) (λ c. search needs) (λ c. search needs) (λ c κs. search needs) (λ c κs. search needs)
+    (λ c. search needs) (λ c κs. search needs) (λ c. search needs) (λ c κs. search needs) (λ c κs. search needs) returns-3)

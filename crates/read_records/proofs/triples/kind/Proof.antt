@@ -5,10 +5,6 @@ use Rattle.rules.specs.Dst.{under, dstRecord}
 use Rattle.read_records.proofs.triples.kind.Statement.{statement}
 use Rattle.read_records.proofs.triples.kind.Tie as tie
 
-returns : tie.Need-returns
-unfolding dstRecord under
-returns c = simp (eq-eqb _ _ (c .if1 .taken))
-
 returns-2 : tie.Need-returns-2
 unfolding dstRecord under
 returns-2 c =
@@ -17,24 +13,27 @@ returns-2 c =
 returns-3 : tie.Need-returns-3
 unfolding dstRecord under
 returns-3 c =
+    let q = c .before in let s = q .before .before in
     simp (
-      ne-eqb _ _ (c .before .before .if1 .left),
-      ne-eqb _ _ (c .before .if2 .left),
+      ne-eqb _ _ (q .before .if1 .left),
+      ne-eqb _ _ (q .if2 .left),
       eq-eqb _ _ (c .if3 .taken),
-      toZ-ofZ (c .before .before .before .fits .dx),
-      toZ-ofZ (c .before .before .before .fits .dy),
+      toZ-ofZ (s .fits .dx),
+      toZ-ofZ (s .fits .dy),
     )
 
 returns-4 : tie.Need-returns-4
 unfolding dstRecord under
 returns-4 c =
+    let q = c .before in let s = q .before .before in
     simp (
-      ne-eqb _ _ (c .before .before .if1 .left),
-      ne-eqb _ _ (c .before .if2 .left),
+      ne-eqb _ _ (q .before .if1 .left),
+      ne-eqb _ _ (q .if2 .left),
       ne-eqb _ _ (c .if3 .left),
-      toZ-ofZ (c .before .before .before .fits .dx),
-      toZ-ofZ (c .before .before .before .fits .dy),
+      toZ-ofZ (s .fits .dx),
+      toZ-ofZ (s .fits .dy),
     )
 
 pub kind-spec : {M : Type 1} → statement M
-kind-spec = tie.close (tie.spec returns returns-2 returns-3 returns-4)
+unfolding dstRecord under
+kind-spec = tie.close (tie.spec (λ c. simp (eq-eqb _ _ (c .if1 .taken))) returns-2 returns-3 returns-4)

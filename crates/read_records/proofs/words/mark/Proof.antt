@@ -5,8 +5,5 @@ use borrow.Author.Needs.{needs}
 use Rattle.read_records.proofs.words.mark.Statement.{statement}
 use Rattle.read_records.proofs.words.mark.Tie as tie
 
-mul-result : tie.Need-mul-result
-mul-result c = omega (arith, mark-le (c .args .a) (c .pre))
-
 pub mark-spec : {M : Type 1} → statement M
-mark-spec = tie.close (tie.spec mul-result (λ c. search needs))
+mark-spec = tie.close (tie.spec (λ c. omega (arith, mark-le (c .args .a) (c .pre))) (λ c. search needs))

@@ -7,21 +7,13 @@ use borrow.Author.Needs.{needs}
 use Rattle.read_records.proofs.words.pec_step.Statement.{statement}
 use Rattle.read_records.proofs.words.pec_step.Tie as tie
 
-mul-result : tie.Need-mul-result
-mul-result c = let a = c .before .args in second-fits (a .a) (omega arith) (a .b) (omega arith)
-
-add-result : tie.Need-add-result
-add-result c =
-    let a = c .before .args in
-    let u = c .first-of in
-    rw (ret w32 (u .result) (u .ok), u .ensures) (sum-fits (a .a) (omega arith) (a .b) (omega arith))
-
-returns : tie.Need-returns
-returns c =
-    let a = c .before .args in
-    let u = c .first-of in
-    rw (ret w32 (u .result) (u .ok), u .ensures) (sum-read (a .a) (omega arith) (a .b) (omega arith))
-
 pub pec-step-spec : {M : Type 1} → statement M
 pec-step-spec =
-    tie.close (tie.spec (λ c κs. search needs) (λ c. search needs) (λ c. search needs) mul-result add-result returns)
+    tie.close
+    (tie.spec
+    (λ c κs. search needs) (λ c. search needs) (λ c. search needs)
+    (λ c. second-fits (c .before .args .a) (omega arith) (c .before .args .b) (omega arith))
+    (λ c. let a = c .before .args in let u = c .first-of in
+    rw (ret w32 (u .result) (u .ok), u .ensures) (sum-fits (a .a) (omega arith) (a .b) (omega arith)))
+    (λ c. let a = c .before .args in let u = c .first-of in
+    rw (ret w32 (u .result) (u .ok), u .ensures) (sum-read (a .a) (omega arith) (a .b) (omega arith))))

@@ -1,4 +1,5 @@
 -- What is written is as far as the place; what comes is what the commands left take, from the place of the last.
+use borrow.Author.Needs.{needs}
 use mathlib.Core.Path.{_≡_, sym, _∙_}
 use Prim.Native.Nat.{_+_, _-_, _≤_, min}
 use native.Mathlib.Omega.{arith}
@@ -61,14 +62,6 @@ loop-again c =
     let inv = asked .before .before .before .before .before .before .before .before .before .before .loop .inv in
     (inv .0, (inv .1 .0, (omega arith, going-on (inv .1 .1 .1) (two asked .turn) (c .before .before .put-two .ensures))))
 
-put-at-requires : tie.Need-put-at-requires Inv-loop μ-loop
-put-at-requires c κs =
-    let turn = c .before in
-    let head = turn .before .before .before .before .before in
-    let s = head .before .before .before .before .before .before in
-    let g = head .loop .inv .1 .1 .1 in
-    ((omega arith, one-step (g .steps) (omega arith)), (s .pre .1, going-room g (one-turn (g .steps) (omega arith))))
-
 loop-again-2 : tie.Need-loop-again-2 Inv-loop μ-loop
 loop-again-2 c =
     let inv = c .before .before .before .before .before .before .before .before .before .before .before .loop .inv in
@@ -76,28 +69,25 @@ loop-again-2 c =
     let t = one-read (g .steps) (omega arith) (c .before .x .given) (c .y .given) in
     (inv .0, (inv .1 .0, (omega arith, going-on g t (c .before .before .before .before .put-at .ensures))))
 
-put-at-requires-2 : tie.Need-put-at-requires-2 Inv-loop μ-loop
-put-at-requires-2 c κs =
-    let loop = c .before .before .before .loop in let start = c .before .before .before .before .before .before .before .before .before in
-    let g = loop .inv .1 .1 .1 in
-    ((omega arith, one-step (g .steps) (omega arith)), (start .pre .1, going-room g (one-turn (g .steps) (omega arith))))
-
-same-length : tie.Need-same-length Inv-loop μ-loop
-same-length c =
-    let g = c .before .before .before .before .before .before .loop .inv .1 .1 .1 in
-    going-on g (one-turn (g .steps) (omega arith)) (c .before .before .put-at2 .ensures) .writing .same
-
-returns : tie.Need-returns Inv-loop μ-loop
-returns c =
-    let g = c .before .before .before .before .before .before .loop .inv .1 .1 .1 in
-    going-done (going-on g (one-turn (g .steps) (omega arith)) (c .before .before .put-at2 .ensures)) (omega arith)
-
 pub put-records-spec : {M : Type 1} → statement M
+unfolding dstBytes dstCmd
 put-records-spec =
     tie.close
     (tie.spec
     Inv-loop μ-loop (λ c κs. tt) loop-holds (λ c. omega arith) (λ c. omega arith) (λ c. omega arith) (λ c. omega arith) (λ c κs. tt)
     (λ c. omega arith) (λ c. omega arith) (λ c. omega arith) (λ c. omega arith) (λ c. omega arith) (λ c. omega arith) (λ c. omega arith)
-    (λ c. omega arith) put-two-requires (λ c. omega arith) (λ c. omega arith) loop-again put-at-requires (λ c. omega arith)
-    (λ c. omega arith) (λ c. omega arith) (λ c. omega arith) (λ c. omega arith) loop-again-2 put-at-requires-2 same-length returns
-    (λ c. c .before .before .loop .inv .1 .1 .1 .writing .same) (λ c. going-done (c .before .before .loop .inv .1 .1 .1) (omega arith)))
+    (λ c. omega arith) put-two-requires (λ c. omega arith) (λ c. omega arith) loop-again
+    (λ c κs. let head = c .before .before .before .before .before .before in let g = head .loop .inv .1 .1 .1 in (
+      (omega arith, one-step (g .steps) (omega arith)),
+      (head .before .before .before .before .before .before .pre .1, going-room g (one-turn (g .steps) (omega arith))),
+    ))
+    (λ c. omega arith) (λ c. omega arith) (λ c. omega arith) (λ c. omega arith) (λ c. omega arith) loop-again-2
+    (λ c κs. let head = c .before .before .before in let g = head .loop .inv .1 .1 .1 in (
+      (omega arith, one-step (g .steps) (omega arith)),
+      (head .before .before .before .before .before .before .pre .1, going-room g (one-turn (g .steps) (omega arith))),
+    ))
+    (λ c. search needs)
+    (λ c. let g = c .before .before .before .before .before .before .loop .inv .1 .1 .1 in
+    going-done (going-on g (one-turn (g .steps) (omega arith)) (c .before .before .put-at2 .ensures)) (omega arith))
+    (λ c. c .before .before .loop .inv .1 .1 .1 .writing .same)
+    (λ c. going-done (c .before .before .loop .inv .1 .1 .1) (omega arith)))

@@ -5,14 +5,12 @@ use borrow.Author.Needs.{needs}
 use Rattle.stream_cmd.proofs.pairs.low_byte.Statement.{statement}
 use Rattle.stream_cmd.proofs.pairs.low_byte.Tie as tie
 
-add-result : tie.Need-add-result
-add-result c = over-fits 7 (omega arith) (c .fits .z) (omega (arith, c .pre))
-
-cast-result : tie.Need-cast-result
-cast-result c = over-cast 7 (omega arith) (c .fits .z) (omega (arith, c .pre))
-
 returns : tie.Need-returns
 returns c = over-low 7 (omega arith) (c .fits .z) (omega (arith, c .pre))
 
 pub low-byte-spec : {M : Type 1} → statement M
-low-byte-spec = tie.close (tie.spec add-result cast-result (λ c. search needs) returns)
+low-byte-spec =
+    tie.close
+    (tie.spec
+    (λ c. over-fits 7 (omega arith) (c .fits .z) (omega (arith, c .pre))) (λ c. over-cast 7 (omega arith) (c .fits .z) (omega (arith, c .pre)))
+    (λ c. search needs) returns)

@@ -4,7 +4,7 @@ use mathlib.Core.Path.{_≡_}
 use mir.Facts.{toZ-ofZ}
 use Rattle.rules.specs.Dst.{digit, z27, z9, z3, z1}
 use Rattle.stream_cmd.specs.Cmds.{digitValue}
-use Rattle.stream_cmd.proofs.Digits.{back, value-small, small27, small9, small3, digit-is, rest-is}
+use Rattle.stream_cmd.proofs.Digits.{back, value-small, lower-small, digit-is, rest-is}
 use Rattle.stream_cmd.proofs.triples.digits_of.Statement.{statement}
 use Rattle.stream_cmd.proofs.triples.digits_of.Tie as tie
 
@@ -40,15 +40,15 @@ rest-requires : tie.Need-rest-requires
 rest-requires c κs = rw (toZ-ofZ (c .before .fits .z), d81 c) (c .before .pre, value-small _)
 
 rest-requires-2 : tie.Need-rest-requires-2
-rest-requires-2 c κs = let s = c .before .before .before in rw (is27 (c .before), d27 c) (small27 (s .args .z) (s .pre), value-small _)
+rest-requires-2 c κs = let s = c .before .before .before in rw (is27 (c .before), d27 c) (lower-small (s .args .z) (s .pre) .0, value-small _)
 
 rest-requires-3 : tie.Need-rest-requires-3
-rest-requires-3 c κs = let s = c .before .before .before .before .before in rw (is9 (c .before), d9 c) (small9 (s .args .z) (s .pre), value-small _)
+rest-requires-3 c κs = let s = c .before .before .before .before .before in rw (is9 (c .before), d9 c) (lower-small (s .args .z) (s .pre) .1 .0, value-small _)
 
 rest-requires-4 : tie.Need-rest-requires-4
 rest-requires-4 c κs =
     let s = c .before .before .before .before .before .before .before in
-    rw (is3 (c .before), d3 c) (small3 (s .args .z) (s .pre), value-small _)
+    rw (is3 (c .before), d3 c) (lower-small (s .args .z) (s .pre) .1 .1, value-small _)
 
 returns : tie.Need-returns
 returns c =

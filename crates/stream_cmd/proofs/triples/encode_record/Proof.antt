@@ -23,33 +23,22 @@ digits-of-requires-2 c κs = rw (minus-y c, abs-neg (c .before .args .dy)) (c .b
 add-t22 : tie.Need-add-t22
 add-t22 c =
     let x = c .before .before .before .before .before .before .before .before .before .before in
-    let k = x .before .before .before .before .before .before .before .before .before .before .pre .0 in
-    record { fits = omega (arith, c .bits9 .ensures .1, k) }
+    omega (arith, c .bits9 .ensures .1, x .before .before .before .before .before .before .before .before .before .before .pre .0)
 
 add-t24 : tie.Need-add-t24
 add-t24 c =
     let x = c .before .before .before .before .before .before .before .before .before .before .before .before in
-    let k = x .before .before .before .before .before .before .before .before .before .before .pre .0 in
-    record { fits = omega (arith, c .before .before .bits9 .ensures .1, c .bits10 .ensures .1, k) }
+    omega (arith, c .before .before .bits9 .ensures .1, x .before .before .before .before .before .before .before .before .before .before .pre .0)
 
 returns : tie.Need-returns
 unfolding dstBytes
 returns c =
-    let c9 = c .before .before in
-    let c8 = c9 .before .before in
-    let c7 = c8 .before .before in
-    let c6 = c7 .before .before in
-    let c5 = c6 .before .before in
-    let c4 = c5 .before .before in
-    let c3 = c4 .before .before in
-    let c2 = c3 .before .before in
-    let c1 = c2 .before .before in
-    let y = c1 .before .before in
-    let x = y .before in
-    let s = x .before in
+    let c9 = c .before .before in let c8 = c9 .before .before in let c7 = c8 .before .before in let c6 = c7 .before .before in
+    let c5 = c6 .before .before in let c4 = c5 .before .before in let c3 = c4 .before .before in let c2 = c3 .before .before in
+    let c1 = c2 .before .before in let y = c1 .before .before in let x = y .before in
     rw (c1 .bits .ensures .0, c2 .bits2 .ensures .0, c3 .bits3 .ensures .0, c4 .bits4 .ensures .0, c5 .bits5 .ensures .0)
     (rw (c6 .bits6 .ensures .0, c7 .bits7 .ensures .0, c8 .bits8 .ensures .0, c9 .bits9 .ensures .0, c .bits10 .ensures .0)
-    (rw (x .digits-of .ensures, y .digits-of2 .ensures, minus-y x, toZ-ofZ (s .fits .dx)) (simp sign-back)))
+    (rw (x .digits-of .ensures, y .digits-of2 .ensures, minus-y x, toZ-ofZ (x .before .fits .dx)) (simp sign-back)))
 
 pub encode-record-spec : {M : Type 1} → statement M
 encode-record-spec =

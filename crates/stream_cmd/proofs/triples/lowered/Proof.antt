@@ -10,9 +10,6 @@ use Rattle.stream_cmd.proofs.triples.lowered.Tie as tie
 sub-result : tie.Need-sub-result
 sub-result c = omega (ints, seen (c .fits .z), abs-is (c .args .z))
 
-cast-result : tie.Need-cast-result
-cast-result c = let h = sub-result c in omega (ints, seen (c .fits .z), abs-is (c .args .z))
-
 returns : tie.Need-returns
 returns c =
     let h = sub-result c in
@@ -21,4 +18,6 @@ returns c =
     e
 
 pub lowered-spec : {M : Type 1} → statement M
-lowered-spec = tie.close (tie.spec sub-result cast-result returns)
+lowered-spec =
+    tie.close
+    (tie.spec sub-result (λ c. let h = sub-result c in omega (ints, seen (c .fits .z), abs-is (c .args .z))) returns)

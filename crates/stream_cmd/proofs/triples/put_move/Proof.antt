@@ -16,10 +16,6 @@ use Rattle.stream_cmd.proofs.Parts.{packed-most, unpacked, bits-sum, pa
 use Rattle.stream_cmd.proofs.triples.put_move.Statement.{statement}
 use Rattle.stream_cmd.proofs.triples.put_move.Tie as tie
 
-raised-requires : tie.Need-raised-requires
-unfolding most
-raised-requires c κs = let s = c .before .before .before in rw (toZ-ofZ (s .fits .dx)) (s .pre .0 .1 .x)
-
 -- the entry of the step along x
 at-x : (c : tie.After-raised)
     → (let a = c .before .before .before .before .args in
@@ -30,18 +26,6 @@ at-x c =
     let s = c .before .before .before .before in
     let e = rw (toZ-ofZ (s .fits .dx)) at (c .raised .ensures) in
     part-at (s .args .dx) (c .raised .result) (s .pre .1 .0 .0) (s .pre .0 .1 .x) e
-
-shared-slice-read-v : tie.Need-shared-slice-read-v
-shared-slice-read-v c = omega (arith, at-x (c .before) .0, c .before .before .before .before .before .pre .1 .0 .0 .size)
-
-add-v : tie.Need-add-v
-add-v c =
-    let start = c .before .before .before .before .before in
-    omega (arith, at-x (c .before) .1, packed-most 0 (start .args .dx) (pos 0) (omega arith), start .pre .0 .0)
-
-lowered-requires : tie.Need-lowered-requires
-unfolding most
-lowered-requires c κs = let s = c .before .before .before .before .before in rw (toZ-ofZ (s .fits .dy)) (s .pre .0 .1 .y)
 
 -- and along y
 at-y : (c : tie.After-lowered)
@@ -55,9 +39,6 @@ at-y c =
     let h : natAbs k ≤ 121 = rw (abs-neg (s .args .dy)) (s .pre .0 .1 .y) in
     let e : pos (c .lowered .result) ≡ k +ℤ pos 121 = omega (ints, seen (s .fits .dy), neg-law (s .args .dy)) in
     part-at k (c .lowered .result) (s .pre .1 .0 .1) h e
-
-shared-slice-read-v-2 : tie.Need-shared-slice-read-v-2
-shared-slice-read-v-2 c = omega (arith, at-y (c .before) .0, c .before .before .before .before .before .before .before .pre .1 .0 .1 .size)
 
 add-v-2 : tie.Need-add-v-2
 add-v-2 c =
@@ -77,8 +58,14 @@ returns c =
     put-as (c .before .before .put-three .ensures) (rw (at-x up .1, at-y low .1, bits-sum (a .kind) (a .dx) k) e)
 
 pub put-move-spec : {M : Type 1} → statement M
+unfolding most
 put-move-spec =
     tie.close
     (tie.spec
-    (λ c. search needs) raised-requires (λ c. omega (arith, at-x c .0)) shared-slice-read-v add-v lowered-requires
-    (λ c. omega (arith, at-y c .0)) shared-slice-read-v-2 add-v-2 (λ c κs. search needs) (λ c. search needs) returns)
+    (λ c. search needs) (λ c κs. search needs) (λ c. omega (arith, at-x c .0))
+    (λ c. omega (arith, at-x (c .before) .0, c .before .before .before .before .before .pre .1 .0 .0 .size))
+    (λ c. let s = c .before .before .before .before .before in
+    omega (arith, at-x (c .before) .1, packed-most 0 (s .args .dx) (pos 0) (omega arith), s .pre .0 .0))
+    (λ c κs. search needs) (λ c. omega (arith, at-y c .0))
+    (λ c. omega (arith, at-y (c .before) .0, c .before .before .before .before .before .before .before .pre .1 .0 .1 .size)) add-v-2 (λ c κs. search needs)
+    (λ c. search needs) returns)

@@ -6,15 +6,12 @@ use Rattle.laws.specs.Buffers.{put-as}
 use Rattle.stream_cmd.proofs.triples.put_record.Statement.{statement}
 use Rattle.stream_cmd.proofs.triples.put_record.Tie as tie
 
-returns : tie.Need-returns
-unfolding dstBytes
-returns c =
-    let s = c .before .before .before .before .before .before in
-    put-as (c .before .before .put3 .ensures) (rw (c .before .before .before .before .encode-record .ensures, toZ-ofZ (s .fits .dx), toZ-ofZ (s .fits .dy)))
-
 pub put-record-spec : {M : Type 1} → statement M
+unfolding dstBytes
 put-record-spec =
     tie.close
     (tie.spec
-    (λ c κs. search needs) (λ c. search needs) (λ c. search needs) (λ c. search needs) (λ c κs. search needs)
-    (λ c. search needs) returns)
+    (λ c κs. search needs) (λ c. search needs) (λ c. search needs) (λ c. search needs) (λ c κs. search needs) (λ c. search needs)
+    (λ c. let r = c .before .before .before .before in
+    let f = r .before .before .fits in
+    put-as (c .before .before .put3 .ensures) (rw (r .encode-record .ensures, toZ-ofZ (f .dx), toZ-ofZ (f .dy)))))

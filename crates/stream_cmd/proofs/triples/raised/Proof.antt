@@ -10,9 +10,6 @@ use Rattle.stream_cmd.proofs.triples.raised.Tie as tie
 add-result : tie.Need-add-result
 add-result c = omega (ints, seen (c .fits .z), abs-is (c .args .z))
 
-cast-result : tie.Need-cast-result
-cast-result c = let h = add-result c in omega (ints, seen (c .fits .z), abs-is (c .args .z))
-
 returns : tie.Need-returns
 returns c =
     let h = add-result c in
@@ -21,4 +18,6 @@ returns c =
     e
 
 pub raised-spec : {M : Type 1} → statement M
-raised-spec = tie.close (tie.spec add-result cast-result returns)
+raised-spec =
+    tie.close
+    (tie.spec add-result (λ c. let h = add-result c in omega (ints, seen (c .fits .z), abs-is (c .args .z))) returns)

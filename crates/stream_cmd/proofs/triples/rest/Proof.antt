@@ -10,25 +10,17 @@ use Rattle.rules.specs.Dst.{digit}
 use Rattle.stream_cmd.proofs.Digits.{taken, rest-fits}
 use Rattle.stream_cmd.proofs.triples.rest.Statement.{statement}
 use Rattle.stream_cmd.proofs.triples.rest.Tie as tie
-use Rattle.stream_cmd.proofs.triples.rest.Reads as reads
-use Rattle.stream_cmd.proofs.triples.rest.Lts as lts
 
 cast-result : tie.Need-cast-result
 cast-result c = search needs
 
-product : (c : lts.Start reads.Pre reads.Post) → SFits w32 (c .args .d *ℤ pos (c .args .weight))
+product : (c : tie.Start) → SFits w32 (c .args .d *ℤ pos (c .args .weight))
 product c = fits-times (c .args .d) (pos (c .args .weight)) 1 255 (c .pre .1) (omega arith) (omega arith)
 
-difference : (c : lts.Start reads.Pre reads.Post) → SFits w32 (c .args .z -ℤ c .args .d *ℤ pos (c .args .weight))
+difference : (c : tie.Start) → SFits w32 (c .args .z -ℤ c .args .d *ℤ pos (c .args .weight))
 difference c =
     rw (taken (c .args .weight) (c .args .d) (c .args .z) (c .pre .1))
     (rest-fits (c .args .weight) (digit 0 (c .args .d)) (c .args .z) (omega arith) (c .pre .0))
-
-mul-result : tie.Need-mul-result
-mul-result c = rw (toZ-ofZ (c .fits .d), toZ-ofZ (cast-result c)) (product c)
-
-sub-result : tie.Need-sub-result
-sub-result c = rw (toZ-ofZ (c .fits .z), toZ-ofZ (c .fits .d), toZ-ofZ (cast-result c), toZ-ofZ (product c)) (difference c)
 
 returns : tie.Need-returns
 returns c =
@@ -36,4 +28,8 @@ returns c =
     (taken (c .args .weight) (c .args .d) (c .args .z) (c .pre .1))
 
 pub rest-spec : {M : Type 1} → statement M
-rest-spec = tie.close (tie.spec cast-result mul-result sub-result returns)
+rest-spec =
+    tie.close
+    (tie.spec
+    cast-result (λ c. rw (toZ-ofZ (c .fits .d), toZ-ofZ (cast-result c)) (product c))
+    (λ c. rw (toZ-ofZ (c .fits .z), toZ-ofZ (c .fits .d), toZ-ofZ (cast-result c), toZ-ofZ (product c)) (difference c)) returns)
