@@ -19,10 +19,10 @@ import sys
 
 HERE = os.path.dirname(os.path.abspath(__file__))
 RULES = os.path.join(HERE, "..", "crates", "rules")
-FORMATS = ["Pes", "Pec", "Dst", "Exp", "Jef"]
+FORMATS = ["Pes", "Pec", "Dst", "Exp", "Jef", "Vp3"]
 LISTS = {"reads": "../crates/replay_reads/data/reads", "writes": "../crates/replay_writes/data/writes"}
 LONG = 1 << 30
-REFUSALS = {1: "UnknownExtension", 3: "NotPes", 4: "FileTooShort", 5: "StartBelowZero"}
+REFUSALS = {1: "UnknownExtension", 3: "BadOpening", 4: "FileTooShort", 5: "StartBelowZero", 12: "OutOfRange"}
 
 
 def cases(name):

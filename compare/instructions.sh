@@ -1,7 +1,7 @@
 #!/usr/bin/env bash
 # Instructions per stitch of the published Rust and of the port, by callgrind: only the calls themselves are counted.
 # PROGRAM is the built comparison, target/release/compare unless told; DESIGNS names the designs, plain and mix unless told.
-# Prints a table; some minutes.
+# Reads of VP3 have no column of the Rust, which does not read it. Prints a table; some minutes.
 cd "$(dirname "$0")" || exit 2
 program=${PROGRAM:-target/release/compare}
 
@@ -14,11 +14,16 @@ count() {
 echo "| design | format | call | Rust | port | ratio |"
 echo "|---|---|---|---|---|---|"
 for design in ${DESIGNS:-plain mix}; do
-    for ext in pes pec dst exp jef; do
+    for ext in pes pec dst exp jef vp3; do
         for call in read-just read-ample write; do
-            rust=$(count "$design" "$ext" "$call" rust) && port=$(count "$design" "$ext" "$call" port) || exit 1
+            port=$(count "$design" "$ext" "$call" port) || exit 1
+            case $ext-$call in
+            vp3-read-*) rust=none ;;
+            *) rust=$(count "$design" "$ext" "$call" rust) || exit 1 ;;
+            esac
             awk -v d="$design" -v e="${ext^^}" -v c="${call/-/, }" -v r="$rust" -v p="$port" \
-                'BEGIN { printf "| %s | %s | %s | %.1f | %.1f | %.2f |\n", d, e, c, r, p, r / p }'
+                'BEGIN { if (r == "none") printf "| %s | %s | %s | none | %.1f | |\n", d, e, c, p
+                         else printf "| %s | %s | %s | %.1f | %.1f | %.2f |\n", d, e, c, r, p, r / p }'
         done
     done
 done

@@ -19,7 +19,7 @@ import sys
 
 HERE = os.path.dirname(os.path.abspath(__file__))
 TOP = os.path.join(HERE, "..")
-FORMATS = ["pes", "pec", "dst", "exp", "jef"]
+FORMATS = ["pes", "pec", "dst", "exp", "jef", "vp3"]
 PROGRAM = "crates/replay_writes"
 
 # What is another in a program whose lengths have four bytes; room for 2 MB.

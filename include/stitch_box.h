@@ -1,4 +1,4 @@
-/* The stitch box for C: five embroidery formats (PES, PEC, DST, EXP, JEF), written and read.
+/* The stitch box for C: six embroidery formats (PES, PEC, DST, EXP, JEF, VP3), written and read.
  *
  * The archive is target/staticlib/libstitch_box_c.a, made by `rt staticlib stitch_box_c`, for x86-64 Linux. It takes memcpy and memset from
  * the C library and nothing else, uses no heap and keeps nothing between calls. Each slice is a pointer and a length, counted in elements.
@@ -8,8 +8,8 @@
  * Stack: stitch_box_write_cmds takes under 1 MiB; stitch_box_write under 512 KiB in PES and PEC, however short the list, and under 8 KiB in
  * the other formats; the other functions under 8 KiB.
  *
- * Units: places are whole tenths of a millimetre; x points right and y points down. An extension is "pes", "pec", "dst", "exp" or "jef", in
- * letters of either case, without a dot and without a final zero. */
+ * Units: places are whole tenths of a millimetre; x points right and y points down. An extension is "pes", "pec", "dst", "exp", "jef" or
+ * "vp3", in letters of either case, without a dot and without a final zero. */
 #ifndef STITCH_BOX_H
 #define STITCH_BOX_H
 
@@ -21,17 +21,19 @@ extern "C" {
 #endif
 
 /* Raised with each change of the interface or of what the functions answer; CHANGELOG.md has what changed. */
-#define STITCH_BOX_VERSION "0.1.0"
+#define STITCH_BOX_VERSION "0.2.0"
 
 /* What a function answers: 0, or the number of a refusal. A number comes if its condition holds and that of none before it in the order of
- * checking. Reading checks 1, 2, 3, 4, 5, 11, the count byte (4) after 5. Writing checks 1, 6, 7, 8, 9, 10, 11, each over the whole list.
- * A refused call changes no element of any slice; the counts and lengths that it is given references to become 0. */
+ * checking. Reading checks 1, 2, 3, 4, 5, 11, the count byte (4) after 5; in a VP3 4 and 12 come after 3, in order of place in the file.
+ * Writing checks 1, 6, 7, 8, 9, 10, 11, each over the whole list. A refused call changes no element of any slice; the counts and lengths
+ * that it is given references to become 0. */
 enum {
     STITCH_BOX_DONE = 0,
-    STITCH_BOX_UNKNOWN_EXTENSION = 1, /* The extension is none of the five. */
+    STITCH_BOX_UNKNOWN_EXTENSION = 1, /* The extension is none of the six. */
     STITCH_BOX_FILE_TOO_LONG = 2,     /* The file has more than 2,097,152 bytes. */
-    STITCH_BOX_NOT_PES = 3,           /* A PES file does not begin #PES. */
-    STITCH_BOX_FILE_TOO_SHORT = 4,    /* PES under 12 bytes, DST under 512, JEF under 4, or a PEC part without its count byte. */
+    STITCH_BOX_BAD_OPENING = 3,       /* A PES does not begin #PES, or a VP3 does not begin %vsm% and a zero byte. */
+    STITCH_BOX_FILE_TOO_SHORT = 4,    /* PES under 12 bytes, DST under 512, JEF under 4, a PEC part without its count byte, or a VP3 part
+                                         that ends before or inside a fixed field ahead of stitches. */
     STITCH_BOX_START_BELOW_ZERO = 5,  /* A PES file says that its PEC part starts below 0. */
     STITCH_BOX_BAD_LIST = 6,          /* Empty, over 65,535 commands, slices of unequal length, a kind over 4, or the end missing, early or
                                          repeated. */
@@ -39,15 +41,17 @@ enum {
     STITCH_BOX_TOO_MANY = 8,          /* More than 254 colour changes or 255 threads, or thread bytes not a multiple of three. */
     STITCH_BOX_MOVED = 9,             /* A trim, colour change or end is not where the command before was ((0, 0) if it is the first). */
     STITCH_BOX_STEP_TOO_LONG = 10,    /* A step is past the limit of the format. */
-    STITCH_BOX_BUFFER_TOO_SHORT = 11  /* A slice to be written is shorter than the answer. */
+    STITCH_BOX_BUFFER_TOO_SHORT = 11, /* A slice to be written is shorter than the answer. */
+    STITCH_BOX_OUT_OF_RANGE = 12      /* A VP3 length passes its enclosing part, or a place or block start is beyond 32 signed bits. */
 };
 
 /* Kinds of commands. The last command, and only that, is an end. A command's place is absolute. A step is the change of place on one axis
- * from the command before, the first from (0, 0). Its limits: DST -121 to 121, EXP and JEF -127 to 127, PES and PEC -2,048 to 2,047. */
+ * from the command before, the first from (0, 0). Its limits: DST -121 to 121, EXP and JEF -127 to 127, PES and PEC -2,048 to 2,047; VP3
+ * has none beyond the range of places. */
 enum {
     STITCH_BOX_STITCH = 0,
-    STITCH_BOX_JUMP = 1,
-    STITCH_BOX_TRIM = 2, /* Leaves no mark in PES, PEC and JEF; three jumps in DST that end where they began. */
+    STITCH_BOX_JUMP = 1, /* Leaves no mark in VP3: the stitch after it leads from the stitch before. */
+    STITCH_BOX_TRIM = 2, /* Leaves no mark in PES, PEC and JEF; three jumps in DST that end where they began; 80 03 in VP3. */
     STITCH_BOX_COLOR_CHANGE = 3,
     STITCH_BOX_END = 4
 };
@@ -63,8 +67,9 @@ struct stitch_box_cmd {
  *
  * xs, ys and kinds have one element a command. Threads are three bytes each (red, green, blue), one for each colour block in order. What
  * is stored of a colour is the entry of a chart: in PES and PEC the nearest of 64 that no other thread has yet, in JEF the nearest of 78,
- * but not that of a different thread just before. DST and EXP store no colours. Of the name PES and PEC keep 8 bytes and DST 16, after
- * bytes from 128 up (in DST also control characters) are dropped; EXP and JEF store none. */
+ * but not that of a different thread just before. VP3 stores the colours as they are, black for a block without a thread. DST and EXP
+ * store no colours. Of the name PES and PEC keep 8 bytes and DST 16, after bytes from 128 up (in DST also control characters) are dropped;
+ * EXP, JEF and VP3 store none. */
 uint32_t stitch_box_write(
     const uint8_t *ext, size_t ext_length,
     const uint8_t *name, size_t name_length,
@@ -86,7 +91,8 @@ uint32_t stitch_box_write_cmds(
 
 /* A length of out that always suffices: no list of so many commands and threads that is accepted has a longer file. With an unknown
  * extension the answer is 0. Commands past 65,535 and threads past 255, which are refused, do not raise it. For n commands and t threads:
- * PES 1,094 + 26 n + 228 min(n, 254), PEC 992 + 6 n + 228 min(n, 254), DST 512 + 9 n, EXP 4 n, JEF 124 + 4 n + 8 t. */
+ * PES 1,094 + 26 n + 228 min(n, 254), PEC 992 + 6 n + 228 min(n, 254), DST 512 + 9 n, EXP 4 n, JEF 124 + 4 n + 8 t,
+ * VP3 283 + 8 n + 57 min(n, 254). */
 size_t stitch_box_write_bound(const uint8_t *ext, size_t ext_length, size_t commands, size_t threads);
 
 /* No file of any list is longer: the greatest answer of stitch_box_write_bound. */
@@ -99,17 +105,19 @@ size_t stitch_box_write_bound(const uint8_t *ext, size_t ext_length, size_t comm
 
 /* Reads a file to the fronts of places, runs and blocks; the elements behind stay.
  *
- * A run is a row of points sewn without a jump or colour change (in EXP also a trim) between them. Its first point is where the thread
- * starts: the place that the first stitch leaves, and no stitch itself. A block is what is sewn in one colour: a colour change opens the
- * next, and blocks are numbered from 0. Blocks without runs are left out. Cuts are runs less blocks listed: how often the thread is cut
- * within a colour.
+ * A run is a row of points sewn without a jump or colour change (in EXP and VP3 also a trim) between them. Its first point is where the
+ * thread starts: the place that the first stitch leaves, and no stitch itself; the other points are the needle places. VP3 drops jumps, so
+ * there the place left is that of the stitch before, or the block's start; the needle places are those of the list.
+ *
+ * A block is what is sewn in one colour: a colour change opens the next, and blocks are numbered from 0. Blocks without runs are left out.
+ * Cuts are runs less blocks listed: how often the thread is cut within a colour.
  *
  * places: x and y of each point, run after run. runs: the points of each run. blocks: three numbers each, the block's number, its colour
  * (65,536 red + 256 green + blue) and its runs. The four counts are points, runs, blocks listed and cuts. Filled are two elements of places
  * for each point, one of runs for each run and three of blocks for each block.
  *
- * A block's colour is the one stored for it in the file (PES, PEC and JEF: a chart entry; DST: a TC: line of the header, which
- * stitch_box_write does not write), or else one of eight default shades, by its number modulo 8. */
+ * A block's colour is the one stored for it in the file (PES, PEC and JEF: a chart entry; VP3: the colour itself; DST: a TC: line of the
+ * header, which stitch_box_write does not write), or else one of eight default shades, by its number modulo 8. */
 uint32_t stitch_box_read(
     const uint8_t *ext, size_t ext_length,
     const uint8_t *file, size_t file_length,
@@ -118,8 +126,8 @@ uint32_t stitch_box_read(
     uint32_t *blocks, size_t blocks_length,
     uint32_t *point_count, uint32_t *run_count, uint32_t *block_count, uint32_t *cut_count);
 
-/* Where a file's label stands: *length bytes of the file from *start on. The label of EXP and JEF is empty. The call meets every refusal of
- * reading but 11. */
+/* Where a file's label stands: *length bytes of the file from *start on. The label of EXP, JEF and VP3 is empty. The call meets every
+ * refusal of reading but 11. */
 uint32_t stitch_box_label(
     const uint8_t *ext, size_t ext_length,
     const uint8_t *file, size_t file_length,

@@ -13,7 +13,7 @@ typedef char kind_is_at_8[offsetof(struct stitch_box_cmd, kind) == 8 ? 1 : -1];
 /* Buffers have ROOM elements, of which a call gets a part, and their bytes are set to MARK before each call. */
 enum { COMMANDS = 6, TOO_MANY = 65536, ROOM = 4096, MARK = 0xA5 };
 
-static const char *const exts[] = {"pes", "pec", "dst", "exp", "jef"};
+static const char *const exts[] = {"pes", "pec", "dst", "exp", "jef", "vp3"};
 static const char name[] = "square";
 static const uint8_t threads[] = {200, 40, 40};
 
@@ -125,13 +125,16 @@ static size_t write_square(const char *ext)
     return (size_t)length;
 }
 
-/* Reads the square. */
+/* Reads the square. VP3 drops the jump to its first corner: there the first stitch leaves (0, 0). */
 static void read_square(const char *ext, size_t length)
 {
+    int from_zero = strcmp(ext, "vp3") == 0;
     see(read_file(ext, length, STITCH_BOX_PLACES_FOR(length)) == STITCH_BOX_DONE, ext, "the read");
     see(point_count == 5 && run_count == 1 && block_count == 1 && cut_count == 0, ext, "the counts");
-    for (size_t at = 0; at < 5; at++)
-        see(places[2 * at] == xs[at] && places[2 * at + 1] == ys[at], ext, "a place");
+    for (size_t at = 0; at < 5; at++) {
+        int32_t x = at == 0 && from_zero ? 0 : xs[at], y = at == 0 && from_zero ? 0 : ys[at];
+        see(places[2 * at] == x && places[2 * at + 1] == y, ext, "a place");
+    }
     see(runs[0] == 5 && blocks[0] == 0 && blocks[2] == 1, ext, "the run and the block");
     see(marked(places, 10 * sizeof *places, sizeof places), ext, "elements behind the places");
     see(marked(runs, sizeof *runs, sizeof runs), ext, "elements behind the runs");
@@ -141,7 +144,8 @@ static void read_square(const char *ext, size_t length)
 /* Asks for the label, which is the name or empty, and prints all that came back. */
 static void label_square(const char *ext, size_t length)
 {
-    const char *label = strcmp(ext, "exp") != 0 && strcmp(ext, "jef") != 0 ? name : "";
+    int without = strcmp(ext, "exp") == 0 || strcmp(ext, "jef") == 0 || strcmp(ext, "vp3") == 0;
+    const char *label = without ? "" : name;
     uint64_t start = 7, label_length = 7;
     see(stitch_box_label(bytes(ext), strlen(ext), file, length, &start, &label_length) == STITCH_BOX_DONE, ext, "the label");
     if (!see(label_length == strlen(label) && start <= length && label_length <= length - start, ext, "the label's place"))

@@ -2,7 +2,7 @@
 
 use compare::bench::{hostile, one_call};
 use compare::inputs::samples;
-use compare::replay::{answers, edges, reads, runs_layout, writes};
+use compare::replay::{answers, edges, reads, runs_layout, vp3, writes};
 use compare::{against, bench, port};
 use std::env;
 use std::ffi::OsString;
@@ -12,7 +12,8 @@ use std::process::ExitCode;
 
 const USAGE: &str = "usage: compare samples | edges | show EXT FILE | answers | check | \
     reads COUNT SEED FOLDER | \
-    writes COUNT SEED FOLDER | longs SEED FOLDER | against COUNT SEED [THREADS] | \
+    writes COUNT SEED FOLDER | longs SEED FOLDER | vp3 COUNT SEED FOLDER | \
+    needles COUNT SEED | against COUNT SEED [THREADS] | \
     bench [ROUNDS] | bench hostile [ROUNDS] | bench one DESIGN EXT CALL SIDE COUNT";
 
 fn main() -> ExitCode {
@@ -27,6 +28,8 @@ fn main() -> ExitCode {
         (Some("reads"), 4) => reads(&words[1], &words[2], &words[3]),
         (Some("writes"), 4) => writes(&words[1], &words[2], &words[3]),
         (Some("longs"), 3) => longs(&words[1], &words[2]),
+        (Some("vp3"), 4) => vp3(&words[1], &words[2], &words[3]),
+        (Some("needles"), 3) => needles(&words[1], &words[2]),
         (Some("against"), 3) => compare(&words[1], &words[2], 1),
         (Some("against"), 4) => {
             number(&words[3]).and_then(|threads| compare(&words[1], &words[2], threads as usize))
@@ -65,6 +68,16 @@ fn writes(count: &OsString, seed: &OsString, folder: &OsString) -> io::Result<bo
 
 fn longs(seed: &OsString, folder: &OsString) -> io::Result<bool> {
     writes::write_long(number(seed)?, Path::new(folder)).map(|()| true)
+}
+
+fn vp3(count: &OsString, seed: &OsString, folder: &OsString) -> io::Result<bool> {
+    let (count, seed) = (number(count)?, number(seed)?);
+    vp3::write(count as usize, seed, Path::new(folder)).map(|()| true)
+}
+
+fn needles(count: &OsString, seed: &OsString) -> io::Result<bool> {
+    let (count, seed) = (number(count)?, number(seed)?);
+    Ok(vp3::check_needles(count as usize, seed))
 }
 
 fn compare(count: &OsString, seed: &OsString, threads: usize) -> io::Result<bool> {

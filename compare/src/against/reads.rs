@@ -1,5 +1,6 @@
-//! The port's read and label against the published Rust: number, counts and every
-//! cell of the buffers, those past the answer too; and the label's bytes.
+//! The port's read and label against the published Rust, in VP3 against the plain reader:
+//! number, counts and every cell of the buffers, those past the answer too; and the
+//! label's bytes.
 
 use crate::against::lent_cells::Lent;
 use crate::against::tally::{Calls, Function, Told};
@@ -7,7 +8,7 @@ use crate::inputs::files::File;
 use crate::oracle::Answer;
 use crate::port::{self, Cells};
 
-/// Cells are set to one of these before a call; no place and no count is.
+/// Cells are set to one of these before a call; no count is, and no place is both.
 const MARKS: [u32; 2] = [0xA5A5_A5A5, 0x5A5A_5A5A];
 
 /// The counts by name.

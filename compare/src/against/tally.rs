@@ -2,6 +2,7 @@
 
 use crate::inputs::faulty_lists::Asked;
 use crate::inputs::files::File;
+use crate::oracle::Format;
 use std::collections::BTreeMap;
 
 /// Differences beyond these are counted and not printed.
@@ -11,14 +12,18 @@ const PRINTED: usize = 20;
 const SHOWN: usize = 2_000;
 
 /// Names of the rows.
-const ROWS: [(&str, &str); 6] = [
+const ROWS: [(&str, &str); 7] = [
     ("pes", "PES"),
     ("pec", "PEC"),
     ("dst", "DST"),
     ("exp", "EXP"),
     ("jef", "JEF"),
+    ("vp3", "VP3"),
     ("other", "other extensions"),
 ];
+
+/// Numbers that a call may answer: 0 and those of the refusals.
+const NUMBERS: usize = 13;
 
 /// The port's functions, which are called for a case.
 #[derive(Clone, Copy)]
@@ -51,7 +56,7 @@ pub struct Calls {
 struct Count {
     calls: u64,
     /// How many should answer each number, if it answers one.
-    numbers: [u64; 12],
+    numbers: [u64; NUMBERS],
     differ: u64,
 }
 
@@ -86,7 +91,7 @@ struct Row {
 #[derive(Clone, Default)]
 struct Side {
     cases: u64,
-    numbers: [u64; 12],
+    numbers: [u64; NUMBERS],
     longest: usize,
     sizes: [u64; 3],
 }
@@ -208,7 +213,7 @@ impl Tally {
             "\n| format | longest read | points | runs | blocks | commands | longest written |"
         );
         println!("|---|---|---|---|---|---|---|");
-        for (name, shown) in &ROWS[..5] {
+        for (name, shown) in &ROWS[..Format::ALL.len()] {
             let row = self.rows.get(name).cloned().unwrap_or_default();
             let [points, runs, blocks] = row.reads.sizes.map(digits);
             println!(
@@ -224,7 +229,7 @@ impl Tally {
     fn print_functions(&self) {
         println!("\n| function | calls | by the number wanted | differences |");
         println!("|---|---|---|---|");
-        let mut numbers = [0; 12];
+        let mut numbers = [0; NUMBERS];
         for (name, count) in FUNCTIONS.iter().zip(&self.functions) {
             add(&mut numbers, &count.numbers);
             println!(
@@ -308,12 +313,12 @@ fn hexadecimal(bytes: &[u8]) -> String {
 }
 
 /// The numbers of refusals that occur, each with its count.
-fn refused(numbers: &[u64; 12]) -> String {
+fn refused(numbers: &[u64; NUMBERS]) -> String {
     by_number(numbers, 1)
 }
 
 /// The numbers from this one on that occur, each with its count.
-fn by_number(numbers: &[u64; 12], least: usize) -> String {
+fn by_number(numbers: &[u64; NUMBERS], least: usize) -> String {
     let found = numbers.iter().enumerate().skip(least);
     let found = found.filter(|&(_, &count)| count > 0);
     let shown = found.map(|(number, &count)| format!("{number}: {}", digits(count)));

@@ -56,6 +56,7 @@ fn formula(ext: &[u8], commands: usize, threads: usize) -> usize {
         Some(Format::Dst) => 512 + 9 * n,
         Some(Format::Exp) => 4 * n,
         Some(Format::Jef) => 124 + 4 * n + 8 * t,
+        Some(Format::Vp3) => 283 + 8 * n + 57 * changes,
         None => 0,
     }
 }

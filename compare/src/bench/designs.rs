@@ -67,6 +67,7 @@ pub fn print(design: &Design, rounds: usize) -> bool {
     let list = design.list();
     let (ready, lists) = (list.ready(), Lists::of(&list));
     let mut same = true;
+    let mut medians = Vec::new();
     for format in Format::ALL {
         let file = ready.write(format);
         let cells = cells(format, &file);
@@ -76,20 +77,39 @@ pub fn print(design: &Design, rounds: usize) -> bool {
         ] {
             let mut reads = Reads::new(format, &file, lengths);
             same &= checked(format, call, reads.right(&cells));
-            row(format, call, file.len(), &reads.times(rounds));
+            let times = reads.times(rounds);
+            row(format, call, file.len(), &times);
+            medians.push((format, call, times.medians().1));
         }
         let mut writes = Writes::new(format, &ready, &lists);
         same &= checked(format, "write", writes.right());
         row(format, "write", file.len(), &writes.times(rounds));
     }
+    print_beside_exp(design, &medians);
     same
 }
 
+/// A read of VP3 has no time and no ratios of the Rust.
 fn row(format: Format, call: &str, bytes: usize, times: &Times) {
     let ext = format.ext().to_uppercase();
-    let [rust, port] = times.medians();
-    let [ratio, shortest] = times.ratios();
-    println!("| {ext} | {call} | {bytes} | {rust:.1} | {port:.1} | {ratio:.2} | {shortest:.2} |");
+    let (rust, port) = times.medians();
+    let rust = rust.map_or("none".to_string(), |rust| format!("{rust:.1}"));
+    let ratio = times
+        .ratios()
+        .map(|ratios| ratios.map(|ratio| format!("{ratio:.2}")));
+    let [ratio, shortest] = ratio.unwrap_or_default();
+    println!("| {ext} | {call} | {bytes} | {rust} | {port:.1} | {ratio} | {shortest} |");
+}
+
+/// The reads of VP3, which the Rust has not, beside those of EXP: nanoseconds per stitch.
+fn print_beside_exp(design: &Design, medians: &[(Format, &str, f64)]) {
+    println!("\n| port, ns per stitch | EXP | VP3 | VP3 over EXP |\n|---|---|---|---|");
+    let of = |format| medians.iter().filter(move |median| median.0 == format);
+    for (exp, vp3) in of(Format::Exp).zip(of(Format::Vp3)) {
+        let [exp_time, vp3_time] = [exp.2, vp3.2].map(|time| 1e3 * time / design.stitches as f64);
+        let ratio = vp3_time / exp_time;
+        println!("| {} | {exp_time:.2} | {vp3_time:.2} | {ratio:.2} |", exp.1);
+    }
 }
 
 impl Design {

@@ -1,5 +1,5 @@
 //! The times of hostile files: of every kind, and of the kind that the port is
-//! slowest at beside the Rust.
+//! slowest at beside the Rust; of VP3, which the Rust does not read, the port's own.
 
 use crate::bench::timing::{Reads, Times};
 use crate::bench::{cells, checked};
@@ -37,22 +37,49 @@ fn searched(format: Format, rounds: usize) -> Option<Vec<Kind>> {
     let mut found = Vec::new();
     for (head, body) in hostile_files::kinds(format) {
         let times = times(format, (head, body), LENGTHS[0], rounds)?;
-        found.push((head, body, times.map(|times| times.ratios()[1])));
+        let shortest = |times: Times| times.ratios().map_or(0.0, |ratios| ratios[1]);
+        found.push((head, body, times.map(shortest)));
     }
     Some(found)
+}
+
+/// The formats that the Rust reads.
+fn compared() -> impl Iterator<Item = Format> {
+    let formats = Format::ALL.into_iter();
+    formats.filter(|&format| format != Format::Vp3)
 }
 
 /// Prints the ratios of all kinds of hostile file.
 pub fn print_all(rounds: usize) -> bool {
     println!("| format | kind | just | ample |\n|---|---|---|---|");
     let mut same = true;
-    for format in Format::ALL {
+    for format in compared() {
         let found = searched(format, rounds);
         same &= checked(format, "hostile file", found.is_some());
         for (head, body, [just, ample]) in found.unwrap_or_default() {
             let ext = format.ext().to_uppercase();
             let (body, head) = (body.name(), head.name());
             println!("| {ext} | {body}; {head} | {just:.2} | {ample:.2} |");
+        }
+    }
+    same & print_vp3(rounds)
+}
+
+/// Prints the port's shortest times of all kinds of hostile file of VP3.
+fn print_vp3(rounds: usize) -> bool {
+    println!("\nhostile files of VP3: the port's shortest times by length, in microseconds\n");
+    println!("| call | kind | 2 MiB | 1 MiB | 1/2 MiB |\n|---|---|---|---|---|");
+    let mut same = true;
+    for kind in hostile_files::kinds(Format::Vp3) {
+        let times = LENGTHS.map(|length| times(Format::Vp3, kind, length, rounds));
+        let [Some(two), Some(one), Some(half)] = &times else {
+            same = checked(Format::Vp3, kind.1.name(), false);
+            continue;
+        };
+        for (at, call) in ["read, just", "read, ample"].into_iter().enumerate() {
+            let [two, one, half] = [two, one, half].map(|times| times[at].shortest());
+            let kind = kind.1.name();
+            println!("| {call} | {kind} | {two:.0} | {one:.0} | {half:.0} |");
         }
     }
     same
@@ -66,7 +93,7 @@ pub fn print_worst(rounds: usize) -> bool {
     println!("| port, 2 MiB | 1 MiB | 1/2 MiB |");
     println!("|---|---|---|---|---|---|---|---|---|---|");
     let mut same = true;
-    for format in Format::ALL {
+    for format in compared() {
         let found = searched(format, SEARCH);
         same &= checked(format, "hostile file", found.is_some());
         for (at, call) in ["read, just", "read, ample"].into_iter().enumerate() {
@@ -80,8 +107,9 @@ pub fn print_worst(rounds: usize) -> bool {
                 same = checked(format, call, false);
                 continue;
             };
-            let [rust, port] = two[at].medians();
-            let [ratio, shortest] = two[at].ratios();
+            let (rust, port) = two[at].medians();
+            let rust = rust.unwrap_or_default();
+            let [ratio, shortest] = two[at].ratios().unwrap_or_default();
             let [two, one, half] = [two, one, half].map(|times| times[at].shortest());
             let kind = format!("{}; {}", body.name(), head.name());
             let ext = format.ext().to_uppercase();
@@ -89,5 +117,5 @@ pub fn print_worst(rounds: usize) -> bool {
             println!("{shortest:.2} | {two:.0} | {one:.0} | {half:.0} |");
         }
     }
-    same
+    same & print_vp3(SEARCH)
 }

@@ -23,8 +23,8 @@ pub fn run(rounds: usize) -> bool {
     same & stack::print()
 }
 
-/// The published Rust's answer to a file in which fewer than eight blocks in a
-/// row are empty.
+/// The oracle's answer to a file in which fewer than eight blocks in a row are
+/// empty.
 pub fn cells(format: Format, file: &[u8]) -> Cells {
     let answer = oracle::read_quickly(format.ext().as_bytes(), file);
     Cells::of(&answer.expect("a file that is not refused"))

@@ -16,7 +16,8 @@ fn counted(call: &mut dyn FnMut()) {
 
 /// Makes one call so many times, and once before: of a design (by its name), a
 /// format, a call (`read-just`, `read-ample`, `write`, `write-cmds`) and a side
-/// (`rust`, `port`; the last call has only the latter). Prints the count of stitches.
+/// (`rust`, `port`; the last call and reads of VP3 have only the latter). Prints the count
+/// of stitches.
 pub fn run(design: &str, ext: &str, call: &str, side: &str, count: u64) -> io::Result<bool> {
     let unknown = |word: &str| io::Error::other(format!("{word} is not known"));
     let design = DESIGNS.iter().find(|known| known.name == design);
@@ -36,7 +37,9 @@ pub fn run(design: &str, ext: &str, call: &str, side: &str, count: u64) -> io::R
         let (mut read, mut written) = (None, None);
         writes.lay();
         let call: &mut dyn FnMut() = match (call, side) {
-            ("read-just" | "read-ample", "rust") => &mut || read = Some(reads.rust()),
+            ("read-just" | "read-ample", "rust") if format != Format::Vp3 => {
+                &mut || read = Some(reads.rust())
+            }
             ("read-just" | "read-ample", "port") => &mut || {
                 reads.port();
             },

@@ -88,7 +88,11 @@ fn depth(call: &mut dyn FnMut()) -> usize {
 /// its limit.
 pub fn print() -> bool {
     println!("\ndeepest stack, in bytes\n");
-    println!("| call | PES | PEC | DST | EXP | JEF |\n|---|---|---|---|---|---|");
+    let names = Format::ALL.map(|format| format.ext().to_uppercase());
+    println!(
+        "| call | {} |\n|---|---|---|---|---|---|---|",
+        names.join(" | ")
+    );
     let mut fits = true;
     let rows = [
         ("read", LIMIT, Format::ALL.map(read)),
@@ -98,8 +102,8 @@ pub fn print() -> bool {
     ];
     for (name, limit, depths) in rows {
         fits &= depths.iter().all(|&depth| depth < limit);
-        let [pes, pec, dst, exp, jef] = depths;
-        println!("| {name} | {pes} | {pec} | {dst} | {exp} | {jef} |");
+        let depths = depths.map(|depth| depth.to_string());
+        println!("| {name} | {} |", depths.join(" | "));
     }
     fits
 }

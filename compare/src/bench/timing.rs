@@ -33,7 +33,8 @@ fn now() -> f64 {
     1e6 * time.seconds as f64 + 1e-3 * time.nanoseconds as f64
 }
 
-/// Times of rounds and their ratios, in microseconds, the least first.
+/// Times of rounds and their ratios, in microseconds, the least first; those of the Rust
+/// are none for reads of VP3.
 pub struct Times {
     rust: Vec<f64>,
     port: Vec<f64>,
@@ -51,8 +52,9 @@ impl Times {
     }
 
     /// The medians, Rust and port.
-    pub fn medians(&self) -> [f64; 2] {
-        [&self.rust, &self.port].map(|times| times[times.len() / 2])
+    pub fn medians(&self) -> (Option<f64>, f64) {
+        let median = |times: &[f64]| times.get(times.len() / 2).copied();
+        (median(&self.rust), self.port[self.port.len() / 2])
     }
 
     /// The port's shortest time.
@@ -62,15 +64,17 @@ impl Times {
 
     /// The Rust's time over the port's: the median of the rounds, and that of the
     /// shortest times.
-    pub fn ratios(&self) -> [f64; 2] {
-        let median = self.ratios[self.ratios.len() / 2];
-        [median, self.rust[0] / self.port[0]]
+    pub fn ratios(&self) -> Option<[f64; 2]> {
+        let median = self.ratios.get(self.ratios.len() / 2)?;
+        Some([*median, self.rust[0] / self.port[0]])
     }
 }
 
 /// A file that is read again and again into the same buffers.
 pub struct Reads<'a> {
     ext: &'static str,
+    /// Whether the Rust reads the format.
+    by_rust: bool,
     file: &'a [u8],
     places: Vec<i32>,
     runs: Vec<u32>,
@@ -82,6 +86,7 @@ impl<'a> Reads<'a> {
     pub fn new(format: Format, file: &'a [u8], [places, runs, blocks]: [usize; 3]) -> Reads<'a> {
         Reads {
             ext: format.ext(),
+            by_rust: format != Format::Vp3,
             file,
             places: vec![0; places],
             runs: vec![0; runs],
@@ -127,10 +132,12 @@ impl<'a> Reads<'a> {
     pub fn times(&mut self, rounds: usize) -> Times {
         let (mut rust, mut port) = (Vec::new(), Vec::new());
         for _ in 0..rounds {
-            let start = now();
-            let read = self.rust();
-            rust.push(now() - start);
-            drop(read);
+            if self.by_rust {
+                let start = now();
+                let read = self.rust();
+                rust.push(now() - start);
+                drop(read);
+            }
             self.clear();
             let start = now();
             self.port();

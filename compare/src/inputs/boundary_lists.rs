@@ -4,6 +4,7 @@
 
 use crate::formats::pec_data::PEC_PALETTE;
 use crate::inputs::lists::{self, CHANGE, CHANGES, EDGE, JUMP, List, Move, NAMES, STITCH, TRIM};
+use crate::inputs::vp3_lists;
 use crate::oracle::Format;
 use crate::random::Random;
 
@@ -26,11 +27,15 @@ pub fn all(format: Format, seed: u64) -> Vec<List> {
     scripts.extend(pairs(format));
     scripts.extend(rows());
     scripts.extend(RUNS.iter().flat_map(|&length| runs(length)));
+    scripts.retain(|script| lists::inside(script));
     let mut found = named(&scripts, &mut random);
     found.extend(names(&mut random));
     found.extend(charts(&mut random));
     found.extend(blocks(&mut random));
     found.extend(changes(&mut random));
+    if format == Format::Vp3 {
+        found.extend(vp3_lists::lists(&mut random));
+    }
     found
 }
 
@@ -121,7 +126,7 @@ pub fn way(format: Format, here: (i32, i32), there: (i32, i32)) -> Vec<Move> {
 /// Designs of one place.
 fn points(format: Format) -> Vec<Vec<Move>> {
     let (least, greatest) = format.steps();
-    let ways = [0, 1, -1, greatest, least];
+    let ways = [0, 1, -1, greatest.min(EDGE), least.max(-EDGE)];
     let mut scripts = Vec::new();
     for x in ways {
         for y in ways {

@@ -2,7 +2,7 @@
 //! random ones, and lists with faults put in; most are short.
 
 use crate::inputs::lists::{self, CHANGE, EDGE, JUMP, List, Move, STITCH, TRIM};
-use crate::inputs::{boundary_lists, faults, hard_lists, thumbnail_designs};
+use crate::inputs::{boundary_lists, faults, files, hard_lists, thumbnail_designs};
 use crate::oracle::Format;
 use crate::port::Lists;
 use crate::random::Random;
@@ -67,16 +67,16 @@ impl Boundary {
 
     /// A long list without faults or with some, or one about as long as may be.
     pub fn long(&self, at: usize, random: &mut Random) -> Asked {
-        let which = at % Format::ALL.len();
+        let (which, turn) = (at % Format::ALL.len(), at / Format::ALL.len());
         let (format, lists) = (Format::ALL[which], &self.long[which]);
         let list = &lists[random.below(lists.len())];
-        match at % 4 {
+        match (which + turn) % 4 {
             1 => faulty(format, list, random),
             3 => asked(format, list, random),
             _ => {
                 let mut asked = asked(format, list, random);
                 stretch(&mut asked.list, COUNTS[at / 2 % COUNTS.len()]);
-                if at % 3 == 1 {
+                if turn % 3 == 1 {
                     faults::put(&mut asked, format, random);
                 }
                 asked
@@ -114,11 +114,10 @@ fn faulty(format: Format, list: &List, random: &mut Random) -> Asked {
 /// A list as it is handed over, its extension in letters of either case, some
 /// names of any bytes.
 fn asked(format: Format, list: &List, random: &mut Random) -> Asked {
-    let mut ext = format.ext().as_bytes().to_vec();
-    if random.below(6) == 0 {
-        ext.iter_mut()
-            .for_each(|letter| *letter ^= random.pick(&[0, 0x20]));
-    }
+    let ext = match random.below(6) {
+        0 => files::any_case(format, random),
+        _ => format.ext().as_bytes().to_vec(),
+    };
     let mut list = Lists::of(list);
     match random.below(200) {
         0 => list.name = bytes(random.pick(&[300, 5_000]), random),

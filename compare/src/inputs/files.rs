@@ -2,7 +2,7 @@
 //! ones and random ones. Labels of PEC and headers of DST stay below 128,
 //! where document 01 holds the rules and the published Rust for equal.
 
-use crate::inputs::lists;
+use crate::inputs::{lists, vp3_files};
 use crate::oracle::{self, Format};
 use crate::random::Random;
 
@@ -25,7 +25,27 @@ pub fn all(seed: u64) -> Vec<File> {
     files
 }
 
-fn file(ext: &str, bytes: Vec<u8>) -> File {
+/// The files of VP3 for the list of reads, behind all others: with extensions near its
+/// own first.
+pub fn all_vp3() -> Vec<File> {
+    const NEAR: [&str; 8] = ["VP3", "vP3", "Vp3", "vp", "vp33", "vp4", "vq3", "vp\x13"];
+    let stored = vp3_files::stored();
+    let whole = stored.last().expect("a whole file");
+    let mut files: Vec<File> = NEAR.iter().map(|ext| file(ext, whole.clone())).collect();
+    files.extend(stored.into_iter().map(|bytes| file("vp3", bytes)));
+    files
+}
+
+/// The format's extension in small and large letters.
+pub fn any_case(format: Format, random: &mut Random) -> Vec<u8> {
+    let turn = |&letter: &u8| match random.pick(&[0, 0x20]) {
+        turned if letter.is_ascii_alphabetic() => letter ^ turned,
+        _ => letter,
+    };
+    format.ext().as_bytes().iter().map(turn).collect()
+}
+
+pub fn file(ext: &str, bytes: Vec<u8>) -> File {
     let ext = ext.as_bytes().to_vec();
     File { ext, bytes }
 }

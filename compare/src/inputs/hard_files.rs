@@ -1,18 +1,18 @@
-//! As many files to read as are wanted, hard ones, in equal shares of the five
+//! As many files to read as are wanted, hard ones, in equal shares of the
 //! formats: cut short, written and damaged, made of bytes that matter, and with
 //! odd headers; as `fitting` gives them, only where document 01 holds the rules and
 //! the published Rust for equal.
 
 use crate::inputs::files::{self, EXTS, File, PAIRS, STEPS, THIRDS};
-use crate::inputs::{headers, lists, non_ascii, records};
+use crate::inputs::{headers, lists, non_ascii, records, vp3_files, vp3_marks};
 use crate::oracle::{self, Format, block_numbers};
 use crate::random::Random;
 use std::sync::Arc;
 
 /// Bytes that matter to some format.
-const MATTER: [u8; 22] = [
-    0x00, 0x01, 0x02, 0x04, 0x10, 0x3F, 0x40, 0x7F, 0x80, 0x80, 0x83, 0x90, 0xA0, 0xB0, 0xC3, 0xF3,
-    0xFE, 0xFF, 0x23, 0x0D, 0x0A, 0x20,
+const MATTER: [u8; 23] = [
+    0x00, 0x01, 0x02, 0x03, 0x04, 0x10, 0x3F, 0x40, 0x7F, 0x80, 0x80, 0x83, 0x90, 0xA0, 0xB0, 0xC3,
+    0xF3, 0xFE, 0xFF, 0x23, 0x0D, 0x0A, 0x20,
 ];
 
 /// Files written from the lists of the list of writes, for each format.
@@ -21,6 +21,8 @@ pub type Boundary = Arc<Vec<Vec<Vec<u8>>>>;
 /// The files of a seed, without end.
 pub struct HardFiles {
     random: Random,
+    /// Those that take turns.
+    formats: &'static [Format],
     made: usize,
     boundary: Boundary,
     sweeps: Vec<Sweep>,
@@ -37,6 +39,13 @@ impl HardFiles {
         HardFiles::from(boundary(seed), Random::new(seed))
     }
 
+    /// Only those of VP3.
+    pub fn of_vp3(seed: u64) -> HardFiles {
+        let mut files = HardFiles::new(seed);
+        files.formats = &[Format::Vp3];
+        files
+    }
+
     fn from(boundary: Boundary, mut random: Random) -> HardFiles {
         let sweep = |format: Format| Sweep {
             whole: short(format, &mut random),
@@ -45,6 +54,7 @@ impl HardFiles {
         HardFiles {
             boundary,
             sweeps: Format::ALL.map(sweep).into(),
+            formats: &Format::ALL,
             random,
             made: 0,
         }
@@ -92,9 +102,9 @@ impl HardFiles {
 
     /// The next file, of the format and the kind whose turn it is.
     fn file(&mut self) -> File {
-        let format = Format::ALL[self.made % 5];
+        let format = self.formats[self.made % self.formats.len()];
         let kinds = if format == Format::Exp { 3 } else { 4 };
-        let kind = self.made / 5 % kinds;
+        let kind = self.made / self.formats.len() % kinds;
         let bytes = match kind {
             0 => self.cut(format),
             1 => self.damaged(format),
@@ -103,16 +113,10 @@ impl HardFiles {
         };
         let ext = match self.random.below(50) {
             0 if kind != 0 => self.random.pick(&EXTS).to_vec(),
-            1..8 => self.any_case(format),
+            1..8 => files::any_case(format, &mut self.random),
             _ => format.ext().as_bytes().to_vec(),
         };
         File { ext, bytes }
-    }
-
-    /// The format's extension in small and large letters.
-    fn any_case(&mut self, format: Format) -> Vec<u8> {
-        let turn = |letter: &u8| letter ^ self.random.pick(&[0, 0x20]);
-        format.ext().as_bytes().iter().map(turn).collect()
     }
 
     /// A short file cut at each length in turn, or any cut at a random one.
@@ -204,6 +208,7 @@ fn scattered(format: Format, length: usize, random: &mut Random) -> Vec<u8> {
     match format {
         Format::Pes | Format::Pec => files::body(length, &STEPS, random),
         Format::Exp | Format::Jef => files::body(length, &PAIRS, random),
+        Format::Vp3 => files::body(length, &vp3_files::BYTES, random),
         Format::Dst => {
             let mut bytes = files::body(length, &[0, 1, 2, 0x80], random);
             for third in bytes.iter_mut().skip(2).step_by(3) {
@@ -216,6 +221,9 @@ fn scattered(format: Format, length: usize, random: &mut Random) -> Vec<u8> {
 
 /// Where the stitches of a file begin.
 fn start(format: Format, bytes: &[u8]) -> usize {
+    if format == Format::Vp3 {
+        return vp3_marks::first_stitch(bytes);
+    }
     bytes.len() - block_numbers::stitches(format, bytes).len()
 }
 

@@ -1,8 +1,8 @@
 //! Files with odd headers: starts, offsets, counts and tables at and past
-//! their limits, header lines of all forms.
+//! their limits, header lines of all forms; of VP3, odd parts.
 
 use crate::inputs::files::{self, LABELS, LINES};
-use crate::inputs::records;
+use crate::inputs::{records, vp3_files};
 use crate::oracle::Format;
 use crate::random::Random;
 
@@ -24,6 +24,7 @@ pub fn plain(format: Format, body: &[u8], random: &mut Random) -> Vec<u8> {
             let table: Vec<i32> = (0..count).map(|_| random.between(-200, 200)).collect();
             files::jef_file(116 + 4 * count as i32, count as i32, &table, body)
         }
+        Format::Vp3 => vp3_files::plain(body, random),
     }
 }
 
@@ -35,6 +36,7 @@ pub fn odd(format: Format, random: &mut Random) -> Vec<u8> {
         Format::Pec => odd_pec(random),
         Format::Pes => odd_pes(random),
         Format::Jef => odd_jef(random),
+        Format::Vp3 => vp3_files::odd(random),
     }
 }
 

@@ -1,8 +1,10 @@
 //! Long files that are costly to read: rows of one record, records by turns,
-//! records of all kinds, below plain headers and below the fullest ones.
+//! records of all kinds, below plain headers and below the fullest ones; of VP3 also
+//! many small blocks.
 
 use crate::inputs::files::{self, LABELS};
 use crate::inputs::records::{self, Kind};
+use crate::inputs::vp3_parts::{BLOCK, Colour, HEAD, Whole};
 use crate::oracle::Format;
 use crate::random::Random;
 
@@ -17,10 +19,16 @@ pub enum Body {
     ShortLong,
     /// PEC: steps of two bytes.
     Long,
-    /// EXP and JEF: controls that only end a run.
+    /// EXP, JEF and VP3: controls that only end a run.
     Cuts,
-    /// EXP and JEF: such a control and a stitch by turns.
+    /// EXP, JEF and VP3: such a control and a stitch by turns.
     CutStitch,
+    /// VP3: pairs that do nothing.
+    Nothing,
+    /// VP3: long stitches, without the pair that the writer puts behind them.
+    LongStitches,
+    /// VP3: blocks of so many stitches.
+    Blocks(usize),
 }
 
 /// What stands before the stitches.
@@ -38,7 +46,7 @@ const HEADS: [Head; 3] = [Head::Plain, Head::Colours, Head::Lines];
 
 use Kind::{Change, Jump, Stitch};
 
-const BODIES: [Body; 13] = [
+const BODIES: [Body; 17] = [
     Body::Turns("stitches", &[Stitch]),
     Body::Turns("jumps", &[Jump]),
     Body::Turns("colour changes", &[Change]),
@@ -52,6 +60,10 @@ const BODIES: [Body; 13] = [
     Body::Long,
     Body::Cuts,
     Body::CutStitch,
+    Body::Nothing,
+    Body::LongStitches,
+    Body::Blocks(0),
+    Body::Blocks(1),
 ];
 
 impl Body {
@@ -64,15 +76,23 @@ impl Body {
             Body::Long => "steps of two bytes",
             Body::Cuts => "controls that end a run",
             Body::CutStitch => "control that ends a run, stitch",
+            Body::Nothing => "pairs that do nothing",
+            Body::LongStitches => "long stitches",
+            Body::Blocks(0) => "blocks without stitches",
+            Body::Blocks(_) => "blocks of a stitch",
         }
     }
 
     /// Whether a format has such records.
     fn suits(self, format: Format) -> bool {
         match self {
-            Body::Turns(..) | Body::Mixed(_) => true,
+            Body::Turns(_, kinds) => format != Format::Vp3 || *kinds == [Stitch],
+            Body::Mixed(_) => format != Format::Vp3,
             Body::ShortLong | Body::Long => matches!(format, Format::Pes | Format::Pec),
-            Body::Cuts | Body::CutStitch => matches!(format, Format::Exp | Format::Jef),
+            Body::Cuts | Body::CutStitch => {
+                matches!(format, Format::Exp | Format::Jef | Format::Vp3)
+            }
+            Body::Nothing | Body::LongStitches | Body::Blocks(_) => format == Format::Vp3,
         }
     }
 
@@ -102,7 +122,13 @@ impl Body {
                 }
                 Body::ShortLong if at % 2 == 0 => bytes.push(random.byte() % 128),
                 Body::CutStitch if at % 2 == 0 => bytes.extend([1, random.byte()]),
+                Body::Cuts | Body::CutStitch if format == Format::Vp3 => bytes.extend([0x80, 3]),
                 Body::Cuts | Body::CutStitch => bytes.extend([0x80, 0x80, 7, 0]),
+                Body::Nothing => bytes.extend([0x80, 2]),
+                Body::LongStitches => {
+                    bytes.extend([0x80, 1]);
+                    bytes.extend([0; 4].map(|_| random.byte()));
+                }
                 _ => bytes.extend([0x80 | random.byte() & 0x0F, 5]),
             }
         }
@@ -123,7 +149,7 @@ impl Head {
     fn suits(self, format: Format) -> bool {
         match self {
             Head::Plain => true,
-            Head::Colours => format != Format::Exp,
+            Head::Colours => !matches!(format, Format::Exp | Format::Vp3),
             Head::Lines => format == Format::Dst,
         }
     }
@@ -147,6 +173,7 @@ impl Head {
             Format::Dst => files::dst_file(&lines, &[]).bytes,
             Format::Exp => Vec::new(),
             Format::Jef => files::jef_file(116 + 4 * entries, entries, &table, &[]),
+            Format::Vp3 => Vec::new(),
         }
     }
 }
@@ -161,8 +188,30 @@ pub fn kinds(format: Format) -> impl Iterator<Item = (Head, Body)> {
 
 /// A file of this length.
 pub fn file(format: Format, head: Head, body: Body, length: usize) -> Vec<u8> {
+    if format == Format::Vp3 {
+        return vp3(body, length);
+    }
     let mut file = head.bytes(format);
     file.extend(body.bytes(format, length, &mut Random::new(1)));
     file.truncate(length);
     file
+}
+
+/// The same of VP3, whose lengths follow: one block, or blocks of one kind and bytes left
+/// over.
+fn vp3(body: Body, length: usize) -> Vec<u8> {
+    let mut random = Random::new(1);
+    let mut file = Whole::default();
+    if let Body::Blocks(stitches) = body {
+        let block = Colour::of(&[1, 2].repeat(stitches), (100, -100));
+        let (count, left) = ((length - HEAD) / (BLOCK + 2 * stitches), length - HEAD);
+        file.blocks = vec![block; count];
+        file.left_over[2] = vec![0; left % (BLOCK + 2 * stitches)];
+        return file.bytes();
+    }
+    let room = length - HEAD - BLOCK;
+    let mut bytes = body.bytes(Format::Vp3, room, &mut random);
+    bytes.truncate(room);
+    file.blocks.push(Colour::of(&bytes, (0, 0)));
+    file.bytes()
 }

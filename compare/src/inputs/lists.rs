@@ -2,6 +2,7 @@
 //! then random ones.
 
 use crate::formats::{jef_data::JEF_PALETTE, pec_data::PEC_PALETTE};
+use crate::inputs::vp3_lists;
 use crate::oracle::{Command, Format, Ready};
 use crate::random::Random;
 
@@ -66,6 +67,10 @@ fn gathered(format: Format, seed: u64, taken: impl Fn(usize) -> bool) -> Vec<Lis
     scripts.extend(steps(format));
     scripts.extend(rows());
     scripts.extend(sizes(format));
+    if format == Format::Vp3 {
+        scripts.extend(vp3_lists::scripts());
+    }
+    scripts.retain(|script| inside(script));
     let mut lists: Vec<List> = Vec::new();
     for (at, script) in scripts.iter().enumerate() {
         if taken(at) {
@@ -102,13 +107,20 @@ pub fn accepted(format: Format, cmds: &[Command], threads: &[[u8; 3]]) -> bool {
 }
 
 /// PES holds a PEC part, and thumbnails make both long: they share the
-/// scripts between them.
+/// scripts between them. VP3 takes some of its own, for it has the most.
 fn taken(format: Format, at: usize) -> bool {
     match format {
         Format::Pes => matches!(at % 4, 0 | 3),
         Format::Pec => matches!(at % 4, 1 | 2),
+        Format::Vp3 => at.is_multiple_of(3),
         _ => true,
     }
+}
+
+/// Whether no place of a script lies too far out. Only long steps of VP3 lead there.
+pub fn inside(script: &[Move]) -> bool {
+    let near = |&(x, y, _): &Command| x.abs() <= EDGE && y.abs() <= EDGE;
+    commands(script).iter().all(near)
 }
 
 /// Short lists whose files are worth reading whole.
@@ -135,6 +147,7 @@ pub fn random(format: Format, length: usize, random: &mut Random) -> List {
 fn random_count(format: Format) -> usize {
     match format {
         Format::Pes | Format::Pec => 20,
+        Format::Vp3 => 30,
         Format::Dst | Format::Jef => 60,
         Format::Exp => 110,
     }
@@ -222,6 +235,9 @@ pub fn edges(format: Format) -> Vec<i32> {
         Format::Pes | Format::Pec => vec![1, 62, 63, 64, 65, 127, 128, 129, 255, 256, 2046, 2047],
         Format::Dst => vec![1, 2, 4, 5, 13, 14, 40, 41, 120, 121],
         Format::Exp | Format::Jef => vec![1, 2, 63, 64, 126, 127],
+        Format::Vp3 => vec![
+            1, 2, 126, 127, 128, 129, 255, 256, 257, 2048, 3200, 15_999, 16_000, 31_999, 32_000,
+        ],
     };
     let mut both: Vec<i32> = steps.iter().flat_map(|&step| [step, -step]).collect();
     both.extend([0, -2048]);

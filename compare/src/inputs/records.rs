@@ -19,6 +19,7 @@ pub fn record(format: Format, kind: Kind, random: &mut Random) -> Vec<u8> {
         Format::Dst => dst(kind, random),
         Format::Exp => pair(kind, &[0x04, 0x04, 0x80], random),
         Format::Jef => pair(kind, &[0x02, 0x02, 0x04, 0x80], random),
+        Format::Vp3 => vp3(kind, random),
     }
 }
 
@@ -130,4 +131,35 @@ fn pec_marked(random: &mut Random) -> Vec<u8> {
         [0xFE, 0xB0] | [0xFF, 0x00] => vec![step[0], 0x01],
         _ => step.to_vec(),
     }
+}
+
+/// No record of VP3 opens a block or ends the reading: a pair that does nothing and the
+/// end of a run stand for them. Some stitches are long ones.
+fn vp3(kind: Kind, random: &mut Random) -> Vec<u8> {
+    let (x, y) = (random.byte(), random.byte());
+    match kind {
+        Kind::Stitch if random.below(4) == 0 => vp3_long(random),
+        Kind::Stitch if x == 0x80 => vec![random.pick(&[0x00, 0x7F, 0x81]), y],
+        Kind::Stitch => vec![x, y],
+        Kind::Jump | Kind::End => vec![0x80, 0x03],
+        Kind::Change => vec![
+            0x80,
+            random.pick(&[0x00, 0x02, 0x02, 0x04, 0x07, 0x10, 0x80, 0xFF]),
+        ],
+    }
+}
+
+/// A long stitch, with the pair that the writer puts behind it or without.
+fn vp3_long(random: &mut Random) -> Vec<u8> {
+    let mut step = || match random.below(3) {
+        0 => random.pick(&[0, 127, 128, -127, -128, -129, i16::MAX, i16::MIN]),
+        1 => random.between(-300, 300) as i16,
+        _ => random.draw() as i16,
+    };
+    let ([a, b], [c, d]) = (step().to_be_bytes(), step().to_be_bytes());
+    let mut bytes = vec![0x80, 0x01, a, b, c, d];
+    if random.below(2) == 0 {
+        bytes.extend([0x80, 0x02]);
+    }
+    bytes
 }

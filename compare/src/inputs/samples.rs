@@ -1,13 +1,14 @@
-//! Document 01's samples, as far as the published Rust can show them.
+//! Document 01's samples, as far as the published Rust can show them, and samples of VP3.
 
 use crate::formats::{color_distance, nearest_index, pec_palette};
+use crate::inputs::vp3_samples;
 use crate::oracle::{self, Command, Format};
 use crate::replay::runs_layout;
 
 /// Prints each sample with the value expected; true if none differs.
 pub fn show() -> bool {
     let mut same = true;
-    for (what, found, expected) in records().into_iter().chain(others()) {
+    for (what, found, expected) in records().into_iter().chain(others()).chain(vp3()) {
         let mark = if found == expected {
             "as expected"
         } else {
@@ -16,9 +17,16 @@ pub fn show() -> bool {
         println!("{what}: {found} (expected {expected}) {mark}");
         same &= found == expected;
     }
-    let found = runs_layout::runs(b"exp", &EXP);
-    println!("program runs, exp:\n{found}(expected)\n{EXP_RUNS}");
-    same && found == EXP_RUNS
+    let programs = [
+        ("exp", EXP.to_vec(), EXP_RUNS),
+        ("vp3", vp3_samples::file(), vp3_samples::RUNS),
+    ];
+    for (ext, file, expected) in programs {
+        let found = runs_layout::runs(ext.as_bytes(), &file);
+        println!("program runs, {ext}:\n{found}(expected)\n{expected}");
+        same &= found == expected;
+    }
+    same
 }
 
 type Sample = (String, String, String);
@@ -79,6 +87,26 @@ fn others() -> Vec<Sample> {
         sample("DST of 511 bytes", dst(511), "refused 4"),
         sample("DST of 512 bytes", dst(512), "0 blocks"),
     ]
+}
+
+/// The first line that the program `runs` prints of files of VP3.
+fn vp3() -> Vec<Sample> {
+    let line = |file: &[u8]| {
+        let printed = runs_layout::runs(b"vp3", file);
+        printed.lines().next().unwrap_or_default().to_string()
+    };
+    let whole = vp3_samples::file();
+    let changed = vp3_samples::CHANGED.iter().map(|&(at, byte, expected)| {
+        let mut copy = whole.clone();
+        copy[at] = byte;
+        let what = format!("vp3, byte {at} is {byte:02X}");
+        (what, line(&copy), expected.to_string())
+    });
+    let fronts = vp3_samples::FRONTS.iter().map(|&(end, expected)| {
+        let what = format!("vp3, {end} bytes");
+        (what, line(&whole[..end]), expected.to_string())
+    });
+    changed.chain(fronts).collect()
 }
 
 const EXP: [u8; 10] = [0x0A, 0, 0, 0xF6, 0x80, 4, 5, 5, 3, 0];

@@ -2,7 +2,8 @@
 //! blocks out and tells no numbers, but it colours a block without a stored
 //! colour by its number modulo 8. So the file is cut behind every place where
 //! a colour change could stand, a stitch is put behind the cut, and the colour
-//! of the last block read tells whether the number has gone up by one.
+//! of the last block read tells whether the number has gone up by one. VP3 is not read
+//! by the Rust and has no part in this.
 
 use crate::formats::read::{StitchBlock, read_stitch_file};
 use crate::oracle::Format;
@@ -57,6 +58,7 @@ pub fn stitches(format: Format, file: &[u8]) -> &[u8] {
         Format::Dst => 512,
         Format::Exp => 0,
         Format::Jef => field(0),
+        Format::Vp3 => no_vp3(),
     };
     file.get(start..).unwrap_or_default()
 }
@@ -69,6 +71,7 @@ fn probe(format: Format, body: &[u8], more: &[u8]) -> Vec<StitchBlock> {
         Format::Dst => ("dst", vec![b' '; 512]),
         Format::Exp => ("exp", Vec::new()),
         Format::Jef => ("jef", vec![0; 28]),
+        Format::Vp3 => no_vp3(),
     };
     match format {
         Format::Pes | Format::Pec => file[8 + 49] = 1,
@@ -86,7 +89,12 @@ fn filler(format: Format) -> &'static [u8] {
         Format::Pes | Format::Pec => &[0; 6],
         Format::Dst => &[0, 0, 3],
         Format::Exp | Format::Jef => &[0; 4],
+        Format::Vp3 => no_vp3(),
     }
+}
+
+fn no_vp3() -> ! {
+    unreachable!("the Rust reads no VP3")
 }
 
 /// Behind every place where the bytes of a colour change stand. Some of them
@@ -96,11 +104,13 @@ fn cuts(format: Format, body: &[u8]) -> Vec<usize> {
         Format::Pes | Format::Pec => (1, 2),
         Format::Dst => (3, 3),
         Format::Exp | Format::Jef => (2, 2),
+        Format::Vp3 => no_vp3(),
     };
     let changes = |record: &[u8]| match format {
         Format::Pes | Format::Pec => record == [0xFE, 0xB0],
         Format::Dst => record[2] & 0xC3 == 0xC3,
         Format::Exp | Format::Jef => record == [0x80, 0x01],
+        Format::Vp3 => no_vp3(),
     };
     let ends = (0..body.len()).step_by(apart).map(|at| at + width);
     ends.filter(|&end| end <= body.len() && changes(&body[end - width..end]))

@@ -1,9 +1,10 @@
-//! How the published Rust is called: one write or one read, one answer.
+//! How the published Rust is called: one write or one read, one answer. Reads of VP3, which it
+//! does not have, are those of `vp3_reader`.
 
 use crate::design::{Block as Colour, Design};
 use crate::formats::read::{StitchFile, read_stitch_file};
 use crate::formats::{Cmd, ExportOptions, Op, dst, pes};
-use crate::oracle::{block_numbers, exp_jef_writers};
+use crate::oracle::{block_numbers, more_writers, vp3_reader};
 
 /// Files read are no longer than this.
 pub const LONGEST: usize = 2_097_152;
@@ -15,16 +16,18 @@ pub enum Format {
     Dst,
     Exp,
     Jef,
+    Vp3,
 }
 
 impl Format {
     /// In the order of their numbers in the lists.
-    pub const ALL: [Format; 5] = [
+    pub const ALL: [Format; 6] = [
         Format::Pes,
         Format::Pec,
         Format::Dst,
         Format::Exp,
         Format::Jef,
+        Format::Vp3,
     ];
 
     pub fn ext(self) -> &'static str {
@@ -34,6 +37,7 @@ impl Format {
             Format::Dst => "dst",
             Format::Exp => "exp",
             Format::Jef => "jef",
+            Format::Vp3 => "vp3",
         }
     }
 
@@ -42,12 +46,14 @@ impl Format {
         Format::ALL.into_iter().find(same)
     }
 
-    /// The least and the greatest step of a command.
+    /// The least and the greatest step of a command; in VP3 those that the range of places
+    /// allows.
     pub fn steps(self) -> (i32, i32) {
         match self {
             Format::Pes | Format::Pec => (-2048, 2047),
             Format::Dst => (-121, 121),
             Format::Exp | Format::Jef => (-127, 127),
+            Format::Vp3 => (-32_000, 32_000),
         }
     }
 }
@@ -104,10 +110,10 @@ impl Ready {
         self.write_laid(format)
     }
 
-    /// Lays a copy of the list ready for the writers of EXP and JEF, which make
+    /// Lays a copy of the list ready for the writers of EXP, JEF and VP3, which make
     /// theirs from the design and so take it away.
     pub fn lay(&self, format: Format) {
-        if matches!(format, Format::Exp | Format::Jef) {
+        if matches!(format, Format::Exp | Format::Jef | Format::Vp3) {
             self.design.ready.replace(self.cmds.clone());
         }
     }
@@ -123,8 +129,9 @@ impl Ready {
                 file
             }
             Format::Dst => dst::dst_from_stream(name, cmds),
-            Format::Exp => exp_jef_writers::more::write_exp_with(&self.design, &options()),
-            Format::Jef => exp_jef_writers::more::write_jef_with(&self.design, &options()),
+            Format::Exp => more_writers::more::write_exp_with(&self.design, &options()),
+            Format::Jef => more_writers::more::write_jef_with(&self.design, &options()),
+            Format::Vp3 => more_writers::more::write_vp3_with(&self.design, &options()),
         }
     }
 }
@@ -174,11 +181,15 @@ pub fn read_quickly(ext: &[u8], file: &[u8]) -> Answer {
 
 fn read_by(ext: &[u8], file: &[u8], find: fn(Format, &[u8]) -> (Vec<u32>, bool)) -> Answer {
     let ext = std::str::from_utf8(ext).map_err(|_| 1)?;
-    if file.len() > LONGEST && Format::of(ext).is_some() {
+    let format = Format::of(ext);
+    if file.len() > LONGEST && format.is_some() {
         return Err(2);
     }
+    if format == Some(Format::Vp3) {
+        return vp3_reader::read(file);
+    }
     let read = read_stitch_file(file, ext).map_err(|error| refusal(&error.0))?;
-    let format = Format::of(ext).expect("a format that the Rust reads");
+    let format = format.expect("a format that the Rust reads");
     let (found, exact) = find(format, file);
     assert_eq!(found.len(), read.blocks.len(), "a number for each block");
     Ok(reading(read, &found, exact))

@@ -1,12 +1,15 @@
 //! The published Rust: its stand-ins, how it is called, the block numbers that it
-//! does not tell; and document 01's sewing and refusals, written from its text.
+//! does not tell; and what is written from the documents' text: sewing, needle
+//! places, the refusals of lists, and the reader of VP3.
 
 pub mod block_numbers;
 pub mod calls;
-pub mod exp_jef_writers;
+pub mod more_writers;
+pub mod needles;
 pub mod refusals;
 pub mod sewing;
 pub mod standins;
+pub mod vp3_reader;
 
 pub use calls::{
     Answer, Block, Command, Format, LONGEST, Reading, Ready, command, group, read, read_quickly,

@@ -23,6 +23,7 @@ pub fn format(ext: &[u8]) -> Option<Format> {
         b"dst" => Some(Format::Dst),
         b"exp" => Some(Format::Exp),
         b"jef" => Some(Format::Jef),
+        b"vp3" => Some(Format::Vp3),
         _ => None,
     }
 }
@@ -73,11 +74,13 @@ fn moves_standing(list: &Lists) -> bool {
     list.kinds.iter().zip(steps(list)).any(moved)
 }
 
+/// VP3 has no limit beyond the range of places.
 fn steps_too_far(format: Format, list: &Lists) -> bool {
     let fits = |step: i64| match format {
         Format::Dst => (-121..=121).contains(&step),
         Format::Exp | Format::Jef => (-127..=127).contains(&step),
         Format::Pes | Format::Pec => (-2_048..=2_047).contains(&step),
+        Format::Vp3 => true,
     };
     steps(list).any(|(x, y)| !fits(x) || !fits(y))
 }

@@ -3,7 +3,7 @@
 use crate::formats::{color_distance, nearest_index, pec_palette, stream_bounds};
 use crate::inputs::leaf_questions::{self, Leaf};
 use crate::inputs::{files, lists};
-use crate::oracle::{self, Answer, Block, Command, Format, sewing};
+use crate::oracle::{self, Answer, Block, Command, Format, needles, sewing};
 use crate::replay::case_bytes::{self, Cursor, put_i16, put_long, put_short, put_u16, put_u32};
 use std::path::{Path, PathBuf};
 use std::{fmt, fs, io};
@@ -136,13 +136,16 @@ impl fmt::Display for Groups {
     }
 }
 
-/// The reads whose block numbers are certain, short ones first.
+/// The reads whose block numbers are certain, short ones first; behind them those of VP3,
+/// likewise.
 fn reads() -> Vec<Vec<u8>> {
-    let files = files::all(SEED);
     let case = |file: &files::File| read(&file.ext, &file.bytes);
-    let mut cases: Vec<Vec<u8>> = files.iter().filter_map(case).collect();
-    cases.sort_by_key(Vec::len);
-    cases
+    let sorted = |files: &[files::File]| {
+        let mut cases: Vec<Vec<u8>> = files.iter().filter_map(case).collect();
+        cases.sort_by_key(Vec::len);
+        cases
+    };
+    [sorted(&files::all(SEED)), sorted(&files::all_vp3())].concat()
 }
 
 /// A file with what the published Rust reads in it, as a case; none if its block
@@ -194,7 +197,7 @@ fn read_again(case: &[u8]) -> Option<Vec<u8>> {
     read(ext, cursor.take(length.into()))
 }
 
-/// The writes, those of few commands first.
+/// The writes, those of few commands first; behind them those of VP3, likewise.
 fn writes() -> Vec<Vec<u8>> {
     let mut lists: Vec<(Format, lists::List)> = Vec::new();
     for format in Format::ALL {
@@ -204,7 +207,7 @@ fn writes() -> Vec<Vec<u8>> {
                 .map(|list| (format, list)),
         );
     }
-    lists.sort_by_key(|(_, list)| list.cmds.len());
+    lists.sort_by_key(|(format, list)| (*format == Format::Vp3, list.cmds.len()));
     let case = |(format, list): &(Format, lists::List)| {
         let case = write(*format, &list.name, &list.cmds, &list.threads);
         case.expect("a case that fits the layout")
@@ -255,7 +258,7 @@ fn asked(format: Format, name: &[u8], cmds: &[Command], threads: &[[u8; 3]]) -> 
 }
 
 /// Besides: the list is in the domain, the packed file opens to the length
-/// told, and it sews what the list sews.
+/// told, and it sews what the list sews; in VP3 it has the list's needle places.
 fn write_again(case: &[u8]) -> Option<Vec<u8>> {
     let mut cursor = Cursor(case);
     let format = Format::ALL[usize::from(cursor.u8())];
@@ -269,7 +272,10 @@ fn write_again(case: &[u8]) -> Option<Vec<u8>> {
     let length = cursor.u16();
     let file = case_bytes::unpack(cursor.0);
     let reading = oracle::read(format.ext().as_bytes(), &file).ok()?;
-    let sews = sewing::of_file(&reading.blocks) == sewing::of_list(&cmds);
+    let sews = match format {
+        Format::Vp3 => needles::of_file(&reading.blocks) == needles::of_list(&cmds),
+        _ => sewing::of_file(&reading.blocks) == sewing::of_list(&cmds),
+    };
     let opens = file.len() == usize::from(length);
     let accepted = lists::accepted(format, &cmds, &threads);
     let right = accepted && opens && sews;

@@ -6,4 +6,5 @@ pub mod case_bytes;
 pub mod edges;
 pub mod reads;
 pub mod runs_layout;
+pub mod vp3;
 pub mod writes;

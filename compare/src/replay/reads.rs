@@ -1,5 +1,5 @@
-//! The list that the command `reads` makes: hard files, each with what the published
-//! Rust reads in it.
+//! The list that the command `reads` makes: hard files, each with what the oracle reads
+//! in it.
 
 use crate::inputs::hard_files::HardFiles;
 use crate::oracle;

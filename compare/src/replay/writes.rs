@@ -13,11 +13,11 @@ use std::path::Path;
 use std::{fs, io};
 
 /// A file of cases being written.
-struct Cases {
+pub struct Cases {
     name: &'static str,
     out: BufWriter<fs::File>,
     groups: Groups,
-    made: usize,
+    pub made: usize,
     length: usize,
 }
 
@@ -38,7 +38,7 @@ pub fn write(count: usize, seed: u64, folder: &Path) -> io::Result<()> {
             continue;
         }
         match answers::write(format, &list.name, &list.cmds, &list.threads) {
-            Some(case) => cases.add(format, &case, put_long)?,
+            Some(case) => cases.add(format.ext(), &case, put_long)?,
             None => left_out.add(&format!("too long {}", format.ext())),
         }
     }
@@ -65,7 +65,7 @@ pub fn write_long(seed: u64, folder: &Path) -> io::Result<()> {
             let accepted = lists::accepted(format, cmds, threads);
             if accepted && answers::write(format, name, cmds, threads).is_none() {
                 let case = answers::write_long(format, name, cmds, threads);
-                cases.add(format, &case, put_longer)?;
+                cases.add(format.ext(), &case, put_longer)?;
             }
         }
     }
@@ -73,7 +73,7 @@ pub fn write_long(seed: u64, folder: &Path) -> io::Result<()> {
 }
 
 impl Cases {
-    fn new(folder: &Path, name: &'static str) -> io::Result<Cases> {
+    pub fn new(folder: &Path, name: &'static str) -> io::Result<Cases> {
         fs::create_dir_all(folder)?;
         Ok(Cases {
             name,
@@ -84,16 +84,21 @@ impl Cases {
         })
     }
 
-    fn add(&mut self, format: Format, case: &[u8], put: fn(&mut Vec<u8>, &[u8])) -> io::Result<()> {
+    pub fn add(
+        &mut self,
+        group: &str,
+        case: &[u8],
+        put: fn(&mut Vec<u8>, &[u8]),
+    ) -> io::Result<()> {
         let mut bytes = Vec::new();
         put(&mut bytes, case);
-        self.groups.add(format.ext());
+        self.groups.add(group);
         self.made += 1;
         self.length += bytes.len();
         self.out.write_all(&bytes)
     }
 
-    fn end(&mut self) -> io::Result<()> {
+    pub fn end(&mut self) -> io::Result<()> {
         println!("{}: {}, {} bytes", self.name, self.groups, self.length);
         self.out.flush()
     }

@@ -4,7 +4,7 @@ use mathlib.Core.Path.{_≡_, refl, sym, _∙_}
 use mathlib.Core.Bool.{Bool, true, false, not}
 use mathlib.Core.List.{List}
 use native.Mathlib.Omega.{arith}
-use borrow.Author.Tests.{lt-ltb, le-ltb, ltb-false, eqb-true}
+use borrow.Author.Tests.{lt-ltb, le-ltb, ltb-true, ltb-false, eqb-true, eqb-false}
 use lib.Dec.{ltb, eqb}
 use lib.IntN.{ℤ}
 use lib.ListN.{length}
@@ -23,7 +23,7 @@ use Rattle.rules.specs.declared.Verdict.the-variants.{Accepted, Refused}
 use Rattle.rules.specs.declared.WriteAnswer.{WriteAnswer}
 use Rattle.rules.specs.declared.WriteAnswer.the-variants.{Written, Unwritten}
 use Rattle.laws.specs.Buffers.{Put, put-front}
-use Rattle.laws.specs.Tests.{or-no-left, or-no-right}
+use Rattle.laws.specs.Tests.{by-test, or-no-left, or-no-right}
 use Rattle.laws.specs.Verdicts.{first-false, verdict-on, verdict-stop}
 use Rattle.emit.specs.Answered.{roomVerdict, Answered}
 
@@ -71,8 +71,12 @@ module _ {f : Format} {name : List ℕ} {xs ys : List ℤ} {kinds threads d : Li
 -- ---- what an accepted list is known for
 
 pub record Fine (f : Format) (xs ys : List ℤ) (kinds threads : List ℕ) : Type 0 where
+  pub some : 1 ≤ length kinds
   pub long : length kinds ≤ 65535
+  pub same-xs : length xs ≡ length kinds
+  pub same-ys : length ys ≡ length kinds
   pub few : length threads ≤ 765
+  pub few-changes : count changes (commands xs ys kinds) ≤ 254
   pub places : placeOutside (commands xs ys kinds) ≡ false
   pub steps : stepTooLong f (commands xs ys kinds) ≡ false
 
@@ -84,9 +88,32 @@ few-threads cs threads t =
     let b = eqb-true (length threads % 3) 0 (no-not _ (or-no-right (ltb 255 (length threads / 3)) _ u)) in
     omega arith
 
-few-commands : (xs ys : List ℤ) (kinds : List ℕ) → badList xs ys kinds ≡ false → length kinds ≤ 65535
+few-blocks : (cs : List Cmd) (threads : List ℕ) → tooMany cs threads ≡ false → count changes cs ≤ 254
+unfolding tooMany
+few-blocks cs threads t = ltb-false 254 (count changes cs) (or-no-left _ _ t)
+
+-- as many places as kinds, from 1 to 65,535
+record Even (xs ys : List ℤ) (kinds : List ℕ) : Type 0 where
+  some : 1 ≤ length kinds
+  long : length kinds ≤ 65535
+  same-xs : length xs ≡ length kinds
+  same-ys : length ys ≡ length kinds
+
+even : (xs ys : List ℤ) (kinds : List ℕ) → badList xs ys kinds ≡ false → Even xs ys kinds
 unfolding badList
-few-commands xs ys kinds t = ltb-false 65535 (length kinds) (or-no-left _ _ (or-no-right (eqb (length kinds) 0) _ t))
+even xs ys kinds t =
+    let a = or-no-right (eqb (length kinds) 0) _ t in
+    let b = or-no-right (ltb 65535 (length kinds)) _ a in
+    let c = or-no-right (not (eqb (length xs) (length kinds))) _ b in
+    record {
+      some = above (length kinds) (or-no-left _ _ t);
+      long = ltb-false 65535 (length kinds) (or-no-left _ _ a);
+      same-xs = eqb-true (length xs) (length kinds) (no-not _ (or-no-left _ _ b));
+      same-ys = eqb-true (length ys) (length kinds) (no-not _ (or-no-left _ _ c));
+    }
+  where
+    above : (n : ℕ) → eqb n 0 ≡ false → 1 ≤ n
+    above n e = by-test (ltb 0 n) (λ t. ltb-true 0 n t) (λ t. absurd (eqb-false n 0 e (omega (arith, ltb-false 0 n t))))
 
 pub fine : {f : Format} {xs ys : List ℤ} {kinds threads : List ℕ} {v : Verdict}
     → v ≡ listVerdict f xs ys kinds threads → v ≡ Accepted → Fine f xs ys kinds threads
@@ -98,4 +125,14 @@ fine {f} {xs} {ys} {kinds} {threads} t e =
     let c = first-false (tooMany cs threads) _ _ (b .1) in
     let d = first-false (moved cs) _ _ (c .1) in
     let s = first-false (stepTooLong f cs) _ _ (d .1) in
-    record { long = few-commands xs ys kinds (a .0); few = few-threads cs threads (c .0); places = b .0; steps = s .0 }
+    let g = even xs ys kinds (a .0) in
+    record {
+      some = g .some;
+      long = g .long;
+      same-xs = g .same-xs;
+      same-ys = g .same-ys;
+      few = few-threads cs threads (c .0);
+      few-changes = few-blocks cs threads (c .0);
+      places = b .0;
+      steps = s .0;
+    }

@@ -82,6 +82,9 @@ pub fn extension_of(ext: &[u8]) -> Extension
     if is_named(ext, 0x6A, 0x65, 0x66) {
         return Extension::Of(Format::Jef);
     }
+    if is_named(ext, 0x76, 0x70, 0x33) {
+        return Extension::Of(Format::Vp3);
+    }
     Extension::Unknown
 }
 

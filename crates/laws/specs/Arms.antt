@@ -8,11 +8,11 @@ use denote.Enum.Declared.{tagOf}
 use lib.ListN.{getD}
 use Rattle.rules.proofs.Format.{the-type}
 use Rattle.rules.specs.declared.Format.{Format}
-use Rattle.rules.specs.declared.Format.the-variants.{Pes, Pec, Dst, Exp, Jef}
+use Rattle.rules.specs.declared.Format.the-variants.{Pes, Pec, Dst, Exp, Jef, Vp3}
 
 -- the format of each number
 abbrev numbered : ℕ → Format
-numbered n = getD (Pes ∷ Pec ∷ Dst ∷ Exp ∷ Jef ∷ []) n Pes
+numbered n = getD (Pes ∷ Pec ∷ Dst ∷ Exp ∷ Jef ∷ Vp3 ∷ []) n Pes
 
 back : (f : Format) → numbered (tagOf the-type f) ≡ f
 back Pes = refl
@@ -20,6 +20,7 @@ back Pec = refl
 back Dst = refl
 back Exp = refl
 back Jef = refl
+back Vp3 = refl
 
 module _ (P : Format → Type 0) where
   either : (k l : ℕ) → P (numbered k) → P (numbered l) → (f : Format) → OneOf (k ∷ l ∷ []) (tagOf the-type f) → P f

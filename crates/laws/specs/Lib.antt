@@ -18,3 +18,6 @@ pub mod Threads
 pub mod Names
 pub mod Lengths
 pub mod Places
+pub mod Vp3Reading
+pub mod Vp3Lengths
+pub mod Vp3Fields

@@ -11,8 +11,8 @@ use lib.Seq.{getD-take, length-take-le}
 use Rattle.rules.specs.Answers.{blocks, blockOf, pointsAfter, begunAfter}
 use Rattle.rules.specs.Files.{orDefault}
 use Rattle.read_records.specs.Firsts.{firstOf}
+use Rattle.read_records.specs.declared.Row.{Row}
 use Rattle.rules.specs.Records.{Event, stitch, jump, change, events}
-use Rattle.rules.specs.declared.Format.{Format}
 use Rattle.rules.specs.declared.ReadAnswer.{ReadAnswer}
 use Rattle.rules.specs.Layout.{Stored, nothing, shade, charted}
 use Rattle.read_header.specs.Colors.{Held, Cells}
@@ -48,7 +48,7 @@ stored-colour f cells r s h k = elim (decLt k r) [
 ]
 
 -- the same answers by other names of the colours and the bytes
-pub answered-as : (f : Format) {c d : ℕ → ℕ} {bytes t : List ℕ} {P P′ : List ℤ} {R R′ B B′ : List ℕ} {r : ReadAnswer} → ((k : ℕ) → c k ≡ d k) → bytes ≡ t
+pub answered-as : (f : Row) {c d : ℕ → ℕ} {bytes t : List ℕ} {P P′ : List ℤ} {R R′ B B′ : List ℕ} {r : ReadAnswer} → ((k : ℕ) → c k ≡ d k) → bytes ≡ t
     → RecordsGiven c f bytes P P′ R R′ B B′ r → RecordsGiven d f t P P′ R R′ B B′ r
 answered-as f {c} {d} {bytes} e eb g = rw (← eb, ← blocks-same c d e 0 0 0 (events (firstOf f) bytes)) g
 
@@ -61,6 +61,6 @@ module _ {f : ℕ → Stored} {cells : List ℕ} {n : ℕ} (w : Cells f cells n)
   cells-long = sym (length-take-le n cells cells-inside)
 
   -- records that are read by the table are read by what is stored
-  pub stored-answer : (g : Format) {bytes t : List ℕ} {P P′ : List ℤ} {R R′ B B′ : List ℕ} {r : ReadAnswer} → bytes ≡ t
+  pub stored-answer : (g : Row) {bytes t : List ℕ} {P P′ : List ℤ} {R R′ B B′ : List ℕ} {r : ReadAnswer} → bytes ≡ t
       → RecordsGiven (colourIn (take n cells)) g bytes P P′ R R′ B B′ r → RecordsGiven (λ k. orDefault (f k) k) g t P P′ R R′ B B′ r
   stored-answer g = answered-as g (stored-colour f cells n w cells-inside)

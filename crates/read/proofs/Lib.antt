@@ -3,3 +3,4 @@ pub mod Rooms
 pub mod Colours
 pub mod Openings
 pub mod Stitches
+pub mod Vp3Files

@@ -20,7 +20,7 @@ use Rattle.rules.specs.Formats.{layoutOf}
 use Rattle.rules.specs.Refusals.{verdict}
 use Rattle.rules.specs.declared.Extension.the-variants.{Of}
 use Rattle.rules.specs.declared.Format.{Format}
-use Rattle.rules.specs.declared.Format.the-variants.{Pes, Pec, Dst, Exp, Jef}
+use Rattle.rules.specs.declared.Format.the-variants.{Pes, Pec, Dst, Exp, Jef, Vp3}
 use Rattle.rules.specs.declared.ReadAnswer.{ReadAnswer}
 use Rattle.rules.specs.declared.ReadAnswer.the-variants.{Unread}
 use Rattle.rules.specs.declared.Refusal.{Refusal}
@@ -69,6 +69,7 @@ module _ (s : List ℕ) where
   says Dst o = tt
   says Exp o = tt
   says Jef o = refl
+  says Vp3 o = (passed Vp3 o .1, refl)
 
   -- the answers by its head are the file's
   by-head : (f : Format) {P P′ : List ℤ} {R R′ B B′ : List ℕ} {r : ReadAnswer} → HeadGiven (headOf f s) s P P′ R R′ B B′ r → FileGiven f s P P′ R R′ B B′ r
@@ -78,6 +79,7 @@ module _ (s : List ℕ) where
   by-head Dst g = g
   by-head Exp g = g
   by-head Jef g = g
+  by-head Vp3 g = g
 
 module _ (f : Format) (s : List ℕ) where
   pub opened : {h : Head} → frontOf f s ≡ At h → Opened h s

@@ -6,11 +6,12 @@ use mathlib.Core.List.{List}
 use native.Mathlib.Omega.{arith}
 use borrow.Author.Tests.{le-ltb, lt-ltb, leb-true, leb-false}
 use lib.Dec.{leb}
-use lib.IntN.{ℤ}
+use lib.IntN.{ℤ, pos}
 use lib.ListN.{length}
-use Rattle.rules.specs.Answers.{pointTotal, blockTotal, cuts}
+use Rattle.rules.specs.Answers.{places, runs, blocks}
 use Rattle.rules.specs.Limits.{blockCells}
-use Rattle.rules.specs.Files.{countsOf, readAnswer, filled}
+use Rattle.rules.specs.Files.{readAnswer, filled}
+use Rattle.rules.specs.Records.{Event, events}
 use Rattle.rules.specs.Refusals.{verdict}
 use Rattle.rules.specs.declared.Counts.{Counts}
 use Rattle.rules.specs.declared.ReadAnswer.the-variants.{Read, Unread}
@@ -18,7 +19,9 @@ use Rattle.rules.specs.declared.Record.{Record}
 use Rattle.rules.specs.declared.Refusal.the-variants.{BufferTooShort}
 use Rattle.rules.specs.declared.Verdict.the-variants.{Accepted, Refused}
 use Rattle.laws.specs.Tests.{by-test, false-true, and-left, and-right}
-use Rattle.read_passes.specs.Told.{placesIn, runsIn, blocksIn, Told, Fits}
+use Rattle.read_passes.specs.Told as passes
+use Rattle.read_vp3.proofs.Tallied.{counts-are}
+use Rattle.read_vp3.specs.Walks.{Told}
 use Rattle.read.specs.Answered.{roomFor, roomVerdict, Given}
 
 -- refusal 11 does not hold
@@ -26,17 +29,25 @@ room : (ps : List ℤ) (rs bs : List ℕ) (np nr nb : ℕ) → length ps ≤ np 
 unfolding roomVerdict verdict
 room ps rs bs np nr nb hp hr hb = rw (le-ltb np (length ps) hp, le-ltb nr (length rs) hr, le-ltb nb (length bs) hb)
 
-same-counts : (k : Counts) (p r b c : ℕ) → k .points ≡ p → k .runs ≡ r → k .blocks ≡ b → k .cuts ≡ c → k ≡ record { points = p; runs = r; blocks = b; cuts = c }
-same-counts k p r b c ep er eb ec = rw (← ep, ← er, ← eb, ← ec)
+-- the answers of events fit buffers of np, nr and nb cells
+pub record Fits (es : List Event) (c : ℕ → ℕ) (np nr nb : ℕ) : Type 0 where
+  pub places : length (places (pos 0) (pos 0) 0 es) ≤ np
+  pub runs : length (runs 0 es) ≤ nr
+  pub blocks : length (blocks c 0 0 0 es) ≤ nb
 
 -- k is told of the answers
-module _ {first : List ℕ → Record} {bytes : List ℕ} {k : Counts} (c : ℕ → ℕ) (t : Told first bytes k) where
-  counts-told : k ≡ countsOf (placesIn first bytes) (runsIn first bytes) (blocksIn c first bytes)
-  unfolding countsOf pointTotal blockTotal cuts
-  counts-told = same-counts k _ _ _ _ (omega (arith, t .points)) (omega (arith, t .runs)) (omega (arith, t .blocks c)) (omega (arith, t, t .blocks c))
+module _ {es : List Event} {k : Counts} (c : ℕ → ℕ) (t : Told es k) where
+  abbrev ps : List ℤ
+  ps = places (pos 0) (pos 0) 0 es
+
+  abbrev rs : List ℕ
+  rs = runs 0 es
+
+  abbrev bs : List ℕ
+  bs = blocks c 0 0 0 es
 
   module _ (np nr nb : ℕ) where
-    pub fits-told : roomFor k np nr nb ≡ true → Fits c first bytes np nr nb
+    pub fits-told : roomFor k np nr nb ≡ true → Fits es c np nr nb
     unfolding roomFor
     fits-told e =
         let more = and-right (leb (2 * k .points) np) (leb (k .runs) nr && leb (blockCells * k .blocks) nb) e in
@@ -46,7 +57,7 @@ module _ {first : List ℕ → Record} {bytes : List ℕ} {k : Counts} (c : ℕ 
           blocks = omega (arith, t .blocks c, leb-true (blockCells * k .blocks) nb (and-right (leb (k .runs) nr) _ more));
         }
 
-    no-room : roomFor k np nr nb ≡ false → roomVerdict (placesIn first bytes) (runsIn first bytes) (blocksIn c first bytes) np nr nb ≡ Refused BufferTooShort
+    no-room : roomFor k np nr nb ≡ false → roomVerdict ps rs bs np nr nb ≡ Refused BufferTooShort
     unfolding roomFor roomVerdict verdict
     no-room e =
         rw (t .points, t .runs, t .blocks c)
@@ -59,14 +70,24 @@ module _ {first : List ℕ → Record} {bytes : List ℕ} {k : Counts} (c : ℕ 
         (λ p. rw (lt-ltb np (2 * k .points) (leb-false _ _ p))))
 
   module _ {P P′ : List ℤ} {R R′ B B′ : List ℕ} where
-    pub given-read : Fits c first bytes (length P) (length R) (length B) → P′ ≡ filled Accepted (placesIn first bytes) P → R′ ≡ filled Accepted (runsIn first bytes) R
-        → B′ ≡ filled Accepted (blocksIn c first bytes) B → Given (placesIn first bytes) P P′ (runsIn first bytes) R R′ (blocksIn c first bytes) B B′ (Read k)
+    pub given-read : Fits es c (length P) (length R) (length B) → P′ ≡ filled Accepted ps P → R′ ≡ filled Accepted rs R
+        → B′ ≡ filled Accepted bs B → Given ps P P′ rs R R′ bs B B′ (Read k)
     unfolding readAnswer
     given-read h eP eR eB =
-        let v = room (placesIn first bytes) (runsIn first bytes) (blocksIn c first bytes) (length P) (length R) (length B) (h .places) (h .runs) (h .blocks) in
-        record { told = rw (v, ← counts-told); places = rw (v, eP); runs = rw (v, eR); blocks = rw (v, eB) }
+        let v = room ps rs bs (length P) (length R) (length B) (h .places) (h .runs) (h .blocks) in
+        record { told = rw (v, ← counts-are es c t); places = rw (v, eP); runs = rw (v, eR); blocks = rw (v, eB) }
 
   pub given-unread : {P : List ℤ} {R B : List ℕ} → roomFor k (length P) (length R) (length B) ≡ false
-      → Given (placesIn first bytes) P P (runsIn first bytes) R R (blocksIn c first bytes) B B (Unread BufferTooShort)
+      → Given ps P P rs R R bs B B (Unread BufferTooShort)
   unfolding readAnswer filled
   given-unread {P} {R} {B} e = let v = no-room (length P) (length R) (length B) e in record { told = rw v; places = rw v; runs = rw v; blocks = rw v }
+
+-- the same of a row of records
+pub of-row : {first : List ℕ → Record} {bytes : List ℕ} {k : Counts} → passes.Told first bytes k → Told (events first bytes) k
+of-row t = record { points = t .points; runs = t .runs; blocks = t .blocks; cuts = t .cuts }
+
+pub row-fits : {first : List ℕ → Record} {bytes : List ℕ} {c : ℕ → ℕ} {np nr nb : ℕ} → Fits (events first bytes) c np nr nb → passes.Fits c first bytes np nr nb
+row-fits h = record { places = h .places; runs = h .runs; blocks = h .blocks }
+
+pub fits-row : {first : List ℕ → Record} {bytes : List ℕ} {c : ℕ → ℕ} {np nr nb : ℕ} → passes.Fits c first bytes np nr nb → Fits (events first bytes) c np nr nb
+fits-row h = record { places = h .places; runs = h .runs; blocks = h .blocks }

@@ -1,4 +1,4 @@
-// Reading: a file of any of the five formats, into three caller-provided buffers.
+// Reading: a file of any format, into three caller-provided buffers.
 // A port of src/formats/read.rs of zigzag, changed.
 use formats::extension_of;
 use read_count::count;
@@ -8,6 +8,7 @@ use read_header::jef_colors;
 use read_header::part;
 use read_header::pec_colors;
 use read_passes::ample;
+use read_records::Row;
 use read_refusals::Head;
 use read_refusals::Opening;
 use read_refusals::front;
@@ -28,7 +29,7 @@ ghost use Rattle.rules.specs.Refusals.{extensionOf};
 ghost use Rattle.rules.specs.Promises.{was, left, ReadOf};
 ghost use Rattle.rules.specs.declared.Extension.the-variants.{Of};
 ghost use Rattle.read_builder.specs.Colour.{colourIn};
-ghost use Rattle.read_refusals.specs.declared.Head.the-variants.{Pec, Dst, Exp, Jef};
+ghost use Rattle.read_refusals.specs.declared.Head.the-variants.{Pec, Dst, Exp, Jef, Vp3};
 ghost use Rattle.read.specs.Answered.{Answered, HeadAnswered, Opened, roomFor};
 
 // Whether the answers fit: refusal 11 if not.
@@ -46,7 +47,7 @@ fn has_room(c: Counts, places: usize, runs: usize, blocks: usize) -> bool
 
 // The answers of the records in bytes. They are counted first, unless the buffers are ample.
 fn read_records(
-    f: Format,
+    f: Row,
     bytes: &[u8],
     colors: &[u32],
     places: &mut [i32],
@@ -90,7 +91,7 @@ fn read_pec(
     let mut colors = [0u32; 256];
     let n = pec_colors(file, start, count, &mut colors);
     read_records(
-        Format::Pec,
+        Row::Pec,
         rest(file, start + 528),
         &colors[..n],
         places,
@@ -106,7 +107,7 @@ fn read_dst(file: &[u8], places: &mut [i32], runs: &mut [u32], blocks: &mut [u32
     let mut colors = [0u32; 256];
     let n = dst_colors(file, &mut colors);
     read_records(
-        Format::Dst,
+        Row::Dst,
         rest(file, DST_HEADER),
         &colors[..n],
         places,
@@ -121,7 +122,7 @@ fn read_exp(file: &[u8], places: &mut [i32], runs: &mut [u32], blocks: &mut [u32
     ensures { λ r. ⌜ HeadAnswered Exp (was file) places runs blocks r ⌝ }
 {
     let none = [0u32; 1];
-    read_records(Format::Exp, file, &none[..0], places, runs, blocks)
+    read_records(Row::Exp, file, &none[..0], places, runs, blocks)
 }
 
 // The stitches of a JEF file: from its offset on, none if that is below zero.
@@ -149,13 +150,31 @@ fn read_jef(
     let mut colors = [0u32; 256];
     let n = jef_colors(file, &mut colors);
     read_records(
-        Format::Jef,
+        Row::Jef,
         jef_stitches(file, offset),
         &colors[..n],
         places,
         runs,
         blocks,
     )
+}
+
+// The counts are known from the opening.
+fn read_vp3(
+    file: &[u8],
+    counts: Counts,
+    places: &mut [i32],
+    runs: &mut [u32],
+    blocks: &mut [u32],
+) -> ReadAnswer
+    requires { ⌜ Opened (Vp3 counts) (now file) ⌝ }
+    ensures { λ r. ⌜ HeadAnswered (Vp3 counts) (was file) places runs blocks r ⌝ }
+{
+    if has_room(counts, places.len(), runs.len(), blocks.len()) {
+        read_vp3::fill(file, places, runs, blocks);
+        return ReadAnswer::Read(counts);
+    }
+    ReadAnswer::Unread(Refusal::BufferTooShort)
 }
 
 // A file that is not refused, by what its opening gave.
@@ -174,6 +193,7 @@ fn read_part(
         Head::Dst => read_dst(file, places, runs, blocks),
         Head::Exp => read_exp(file, places, runs, blocks),
         Head::Jef { offset } => read_jef(file, offset, places, runs, blocks),
+        Head::Vp3 { counts } => read_vp3(file, counts, places, runs, blocks),
     }
 }
 

@@ -31,6 +31,12 @@ unfolding blockOf
 listed c k zero h = absurd (h refl)
 listed c k (suc m) h = refl
 
+-- its colour is that of its number
+pub own-colour : (c : ℕ → ℕ) (k m : ℕ) → blockOf (λ j. c k) k m ≡ blockOf c k m
+unfolding blockOf
+own-colour c k zero = refl
+own-colour c k (suc m) = refl
+
 pub run-cells : (n : ℕ) → length (runOf n) ≡ some n
 unfolding runOf
 run-cells zero = refl

@@ -2,8 +2,9 @@
 use Prim.Native.Nat.{ℕ, zero, suc, _+_, _*_, _^_, _≤_, _<_}
 use mathlib.Core.Path.{_≡_}
 use mathlib.Core.List.{List, [], _∷_, _++_}
-use lib.IntN.{ℤ, pos, natAbs, _+ℤ_}
+use lib.IntN.{ℤ, pos, _+ℤ_}
 use lib.ListN.{length}
+use lib.Signed.{mag}
 use Rattle.rules.specs.Answers.{startOf, runOf, blockOf, pointsAfter, begunAfter}
 use Rattle.rules.specs.Limits.{blockCells}
 use Rattle.rules.specs.declared.Counts.{Counts}
@@ -107,10 +108,10 @@ pub record Counted (b : Builder) (k : Counts) : Type 0 where
   pub blocks : k .blocks ≡ b .blocks
   pub cuts : k .cuts + b .blocks ≡ b .runs
 
--- nothing is near the end of its type
+-- the place is an i32, and no count is near the end of its type
 pub record Small (b : Builder) : Type 0 where
-  pub x : natAbs (b .x) < 2 ^ 31
-  pub y : natAbs (b .y) < 2 ^ 31
+  pub x : mag (b .x) < 2 ^ 31
+  pub y : mag (b .y) < 2 ^ 31
   pub run : b .run < 2 ^ 31
   pub block : b .block < 2 ^ 31
   pub begun : b .begun < 2 ^ 31
@@ -118,10 +119,12 @@ pub record Small (b : Builder) : Type 0 where
   pub runs : b .runs < 2 ^ 31
   pub blocks : b .blocks < 2 ^ 31
 
--- a step from the builder's place stays in an i32
+-- a step is an i32, and so is where it leads from the builder's place
 pub record Reach (b : Builder) (dx dy : ℤ) : Type 0 where
-  pub x : natAbs (b .x) + natAbs dx < 2 ^ 31
-  pub y : natAbs (b .y) + natAbs dy < 2 ^ 31
+  pub step-x : mag dx < 2 ^ 31
+  pub step-y : mag dy < 2 ^ 31
+  pub x : mag (b .x +ℤ dx) < 2 ^ 31
+  pub y : mag (b .y +ℤ dy) < 2 ^ 31
 
 -- what a record adds has room in buffers of np, nr and nb cells
 pub record Holds (colour : ℕ → ℕ) (b : Builder) (r : Record) (np nr nb : ℕ) : Type 0 where

@@ -7,7 +7,8 @@ use rules::Counts;
 use rules::Record;
 ghost use mathlib.Core.Path.{_≡_};
 ghost use Prim.Native.Nat.{_+_, _^_, _<_, _≤_};
-ghost use lib.IntN.{natAbs, _+ℤ_};
+ghost use lib.IntN.{_+ℤ_};
+ghost use lib.Signed.{mag};
 ghost use Rattle.read_records.specs.Fields.{lenOf};
 ghost use Rattle.read_builder.specs.Builders.{Small, Counted, origin, stitched, jumped, changed, finished, some, opening, placeAfter};
 ghost use Rattle.rules.specs.Promises.{was, left};
@@ -41,9 +42,9 @@ pub fn new() -> Builder
     }
 }
 
-// Neither place nor step is large enough to pass an i32.
+// A place and a step that lead to no place past an i32.
 pub fn sum(a: i32, b: i32) -> i32
-    requires { ⌜ natAbs a + natAbs b < 2 ^ 31 ⌝ }
+    requires { ⌜ mag (a +ℤ b) < 2 ^ 31 ⌝ }
     ensures { λ r. ⌜ r ≡ a +ℤ b ⌝ }
 {
     a + b

@@ -8,7 +8,7 @@ use lib.Bits.{bitOr}
 use lib.ListN.{length, getD, drop}
 use Rattle.rules.specs.Dst.{under}
 use Rattle.rules.specs.Vocabulary.{pick}
-use Rattle.rules.specs.declared.Format.the-variants.{Dst}
+use Rattle.read_records.specs.declared.Row.the-variants.{Dst}
 use Rattle.rules.specs.declared.Record.the-variants.{StitchBy}
 use Rattle.laws.specs.Tests.{by-test}
 use Rattle.read_records.proofs.Dsts.{or-below, stepX, stepY, dst-sewn}

@@ -12,7 +12,7 @@ use lib.ListN.{length, drop}
 use Rattle.rules.specs.Answers.{pointsAfter}
 use Rattle.rules.specs.Vocabulary.{pick}
 use Rattle.rules.specs.declared.Counts.{Counts}
-use Rattle.rules.specs.declared.Format.{Format}
+use Rattle.read_records.specs.declared.Row.{Row}
 use Rattle.rules.specs.declared.Record.{Record}
 use Rattle.rules.specs.declared.Record.the-variants.{StitchBy, JumpBy, ChangeBy, Finish}
 use Rattle.read_records.specs.Firsts.{firstOf}
@@ -67,7 +67,7 @@ like-on l Finish x y = l
 
 -- ---- a tally of the bytes before `at`
 
-module _ {f : Format} {bytes : List ℕ} where
+module _ {f : Row} {bytes : List ℕ} where
   pub tallying-start : length bytes ≤ 2097152 → Tallying f bytes noTally 0
   tallying-start s = record { builder = origin; counting = counting-start f bytes; like = omega arith; short = s }
 

@@ -7,8 +7,8 @@ use lib.Dec.{eqb}
 use lib.IntN.{ℤ}
 use lib.ListN.{length, drop}
 use Rattle.rules.specs.Vocabulary.{pick}
-use Rattle.rules.specs.declared.Format.{Format}
-use Rattle.rules.specs.declared.Format.the-variants.{Exp, Jef}
+use Rattle.read_records.specs.declared.Row.{Row}
+use Rattle.read_records.specs.declared.Row.the-variants.{Exp, Jef}
 use Rattle.rules.specs.declared.Record.the-variants.{JumpBy}
 use Rattle.read_records.specs.Firsts.{firstOf}
 use Rattle.read_builder.specs.Builders.{some}
@@ -54,16 +54,16 @@ pub record Like (t : Tally) (b : Builder) : Type 0 where
   pub blocks : b .blocks ≡ t .blocks
 
 -- what is counted at `at` and what is to come are the whole
-pub record Tallying (f : Format) (bytes : List ℕ) (t : Tally) (at : ℕ) : Type 0 where
+pub record Tallying (f : Row) (bytes : List ℕ) (t : Tally) (at : ℕ) : Type 0 where
   pub builder : Builder
   pub counting : Counting f bytes builder at
   pub like : Like t builder
   pub short : length bytes ≤ 2097152
 
 -- from byte `from` to byte `at` stand jumps and nothing else
-pub data Jumps (f : Format) (bytes : List ℕ) (from : ℕ) : ℕ → Type 0 where
+pub data Jumps (f : Row) (bytes : List ℕ) (from : ℕ) : ℕ → Type 0 where
   none : Jumps f bytes from from
   more : {at : ℕ} → Jumps f bytes from at → {dx dy : ℤ} {n : ℕ} → JumpBy dx dy n ≡ firstOf f (drop at bytes) → Jumps f bytes from (at + n)
 
-abbrev pub pairFormat : Bool → Format
-pairFormat jef = pick jef Jef Exp
+abbrev pub pairRow : Bool → Row
+pairRow jef = pick jef Jef Exp

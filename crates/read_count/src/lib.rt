@@ -9,22 +9,22 @@ pub mod triples;
 use crate::pairs::count_pairs;
 use crate::steps::count_steps;
 use crate::triples::count_triples;
+use read_records::Row;
 use rules::Counts;
-use rules::Format;
 ghost use Prim.Native.Nat.{_≤_};
 ghost use lib.ListN.{length};
 ghost use Rattle.rules.specs.Promises.{was};
 ghost use Rattle.read_records.specs.Firsts.{firstOf};
 ghost use Rattle.read_passes.specs.Told.{Told};
 
-pub fn count(f: Format, bytes: &[u8]) -> Counts
+pub fn count(f: Row, bytes: &[u8]) -> Counts
     requires { ⌜ length (now bytes) ≤ 2097152 ⌝ }
     ensures { λ r. ⌜ Told (firstOf f) (was bytes) r ⌝ }
 {
     match f {
-        Format::Pes | Format::Pec => count_steps(bytes),
-        Format::Dst => count_triples(bytes),
-        Format::Exp => count_pairs(false, bytes),
-        Format::Jef => count_pairs(true, bytes),
+        Row::Pec => count_steps(bytes),
+        Row::Dst => count_triples(bytes),
+        Row::Exp => count_pairs(false, bytes),
+        Row::Jef => count_pairs(true, bytes),
     }
 }

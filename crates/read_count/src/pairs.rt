@@ -8,9 +8,9 @@ use crate::tally::tally_change;
 use crate::tally::tally_many;
 use crate::tally::tally_one;
 use read_passes::last_turn;
+use read_records::Row;
 use read_records::pair::kinds;
 use rules::Counts;
-use rules::Format;
 ghost use mathlib.Core.Path.{_≡_};
 ghost use mathlib.Core.Bool.{Bool};
 ghost use Prim.Native.Nat.{_+_, _≤_, _<_};
@@ -19,15 +19,15 @@ ghost use Rattle.rules.specs.Promises.{was};
 ghost use Rattle.read_records.specs.Firsts.{firstOf};
 ghost use Rattle.read_records.specs.Tables.{Kinds};
 ghost use Rattle.read_passes.specs.Told.{Told};
-ghost use Rattle.read_count.specs.Tallies.{Tallying, pairFormat};
+ghost use Rattle.read_count.specs.Tallies.{Tallying, pairRow};
 
 // A control.
 fn pass_control(jef: bool, t: Tally, table: &[u8], bytes: &[u8], at: usize) -> Passed
     requires { ⌜ at + 4 ≤ length (now bytes) ⌝ }
     requires { ⌜ getD (now bytes) at 0 ≡ 0x80 ⌝ }
     requires { ⌜ Kinds jef (now table) ⌝ }
-    requires { ⌜ Tallying (pairFormat jef) (now bytes) t at ⌝ }
-    ensures { λ p. ⌜ Tallying (pairFormat jef) (was bytes) (p .t) (p .at) ⌝ }
+    requires { ⌜ Tallying (pairRow jef) (now bytes) t at ⌝ }
+    ensures { λ p. ⌜ Tallying (pairRow jef) (was bytes) (p .t) (p .at) ⌝ }
     ensures { λ p. ⌜ at < p .at ⌝ }
 {
     let k = table[bytes[at + 1] as usize];
@@ -55,8 +55,8 @@ fn pass_control(jef: bool, t: Tally, table: &[u8], bytes: &[u8], at: usize) -> P
 fn pass_pair(jef: bool, t: Tally, table: &[u8], bytes: &[u8], at: usize) -> Passed
     requires { ⌜ at + 4 ≤ length (now bytes) ⌝ }
     requires { ⌜ Kinds jef (now table) ⌝ }
-    requires { ⌜ Tallying (pairFormat jef) (now bytes) t at ⌝ }
-    ensures { λ p. ⌜ Tallying (pairFormat jef) (was bytes) (p .t) (p .at) ⌝ }
+    requires { ⌜ Tallying (pairRow jef) (now bytes) t at ⌝ }
+    ensures { λ p. ⌜ Tallying (pairRow jef) (was bytes) (p .t) (p .at) ⌝ }
     ensures { λ p. ⌜ at < p .at ⌝ }
 {
     if bytes[at] == 0x80 {
@@ -74,18 +74,18 @@ fn pass_pair(jef: bool, t: Tally, table: &[u8], bytes: &[u8], at: usize) -> Pass
     }
 }
 
-fn format_of(jef: bool) -> Format
-    ensures { λ r. ⌜ r ≡ pairFormat jef ⌝ }
+fn row_of(jef: bool) -> Row
+    ensures { λ r. ⌜ r ≡ pairRow jef ⌝ }
 {
     if jef {
-        return Format::Jef;
+        return Row::Jef;
     }
-    Format::Exp
+    Row::Exp
 }
 
 pub fn count_pairs(jef: bool, bytes: &[u8]) -> Counts
     requires { ⌜ length (now bytes) ≤ 2097152 ⌝ }
-    ensures { λ r. ⌜ Told (firstOf (pairFormat jef)) (was bytes) r ⌝ }
+    ensures { λ r. ⌜ Told (firstOf (pairRow jef)) (was bytes) r ⌝ }
 {
     let table = kinds(jef);
     let mut t = none();
@@ -96,5 +96,5 @@ pub fn count_pairs(jef: bool, bytes: &[u8]) -> Counts
         t = p.t;
         at = p.at;
     }
-    count_rest(format_of(jef), bytes, at, t)
+    count_rest(row_of(jef), bytes, at, t)
 }

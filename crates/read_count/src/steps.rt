@@ -8,6 +8,7 @@ use crate::tally::tally_change;
 use crate::tally::tally_many;
 use crate::tally::tally_one;
 use read_passes::last_turn;
+use read_records::Row;
 use read_records::words::eight;
 use read_records::words::four;
 use read_records::words::past;
@@ -17,12 +18,11 @@ use read_records::words::top;
 use read_records::words::two_long;
 use read_records::words::two_short;
 use rules::Counts;
-use rules::Format;
 ghost use mathlib.Core.Path.{_≡_};
 ghost use Prim.Native.Nat.{ℕ, _+_, _≤_, _<_};
 ghost use lib.ListN.{length};
 ghost use Rattle.rules.specs.Promises.{was};
-ghost use Rattle.rules.specs.declared.Format.the-variants.{Pec};
+ghost use Rattle.read_records.specs.declared.Row.the-variants.{Pec};
 ghost use Rattle.read_records.specs.Firsts.{firstOf};
 ghost use Rattle.read_records.specs.Words.{fourAt};
 ghost use Rattle.read_passes.specs.Told.{Told};
@@ -123,5 +123,5 @@ pub fn count_steps(bytes: &[u8]) -> Counts
         t = p.t;
         at = p.at;
     }
-    count_rest(Format::Pec, bytes, at, t)
+    count_rest(Row::Pec, bytes, at, t)
 }

@@ -1,8 +1,8 @@
 // The numbers that are kept while records are counted, and the plain loop.
 // A port of src/formats/read.rs of zigzag, changed.
+use read_records::Row;
 use read_records::record_at;
 use rules::Counts;
-use rules::Format;
 use rules::Record;
 ghost use mathlib.Core.Path.{_≡_};
 ghost use Prim.Native.Nat.{_+_, _≤_, _<_, _^_};
@@ -95,7 +95,7 @@ pub fn tally_change(t: Tally) -> Tally
 }
 
 // What a record of any kind makes of a tally, and the place of the next record.
-fn pass(f: Format, bytes: &[u8], t: Tally, at: usize) -> Passed
+fn pass(f: Row, bytes: &[u8], t: Tally, at: usize) -> Passed
     requires { ⌜ Tallying f (now bytes) t at ⌝ }
     requires { ⌜ at < length (now bytes) ⌝ }
     ensures { λ p. ⌜ Tallying f (was bytes) (p .t) (p .at) ⌝ }
@@ -119,7 +119,7 @@ fn pass(f: Format, bytes: &[u8], t: Tally, at: usize) -> Passed
 }
 
 // The counts of a tally, once nothing more comes.
-fn counts(t: Tally) -> Counts
+pub fn counts(t: Tally) -> Counts
     requires { ⌜ SmallTally t ⌝ }
     requires { ⌜ t .blocks ≤ t .runs ⌝ }
     ensures { λ r. ⌜ (r .points ≡ t .stitches + t .runs) × (r .runs ≡ t .runs) × (r .blocks ≡ t .blocks) × (r .cuts + t .blocks ≡ t .runs) ⌝ }
@@ -133,7 +133,7 @@ fn counts(t: Tally) -> Counts
 }
 
 // One record after the other, from byte `from` on, to the end.
-pub fn count_rest(f: Format, bytes: &[u8], from: usize, first: Tally) -> Counts
+pub fn count_rest(f: Row, bytes: &[u8], from: usize, first: Tally) -> Counts
     requires { ⌜ Tallying f (now bytes) first from ⌝ }
     ensures { λ r. ⌜ Told (firstOf f) (was bytes) r ⌝ }
 {

@@ -8,15 +8,15 @@ use crate::tally::tally_change;
 use crate::tally::tally_many;
 use crate::tally::tally_one;
 use read_passes::last_turn;
+use read_records::Row;
 use rules::Counts;
-use rules::Format;
 ghost use mathlib.Core.Path.{_≡_};
 ghost use Prim.Native.Nat.{_+_, _≤_, _<_};
 ghost use lib.ListN.{length};
 ghost use Rattle.rules.specs.Dst.{dstFirst, under};
 ghost use Rattle.rules.specs.Promises.{was};
 ghost use Rattle.rules.specs.Vocabulary.{pick};
-ghost use Rattle.rules.specs.declared.Format.the-variants.{Dst};
+ghost use Rattle.read_records.specs.declared.Row.the-variants.{Dst};
 ghost use Rattle.read_records.specs.Firsts.{firstOf};
 ghost use Rattle.read_passes.specs.Told.{Told};
 ghost use Rattle.read_count.specs.Tallies.{Tallying};
@@ -71,5 +71,5 @@ pub fn count_triples(bytes: &[u8]) -> Counts
         t = p.t;
         at = p.at;
     }
-    count_rest(Format::Dst, bytes, at, t)
+    count_rest(Row::Dst, bytes, at, t)
 }

@@ -7,10 +7,11 @@ use lib.IntN.{ℤ, _+ℤ_}
 use lib.ListN.{length, drop}
 use lib.Seq.{sets}
 use Rattle.rules.specs.Answers.{runOf}
-use Rattle.rules.specs.declared.Format.{Format}
-use Rattle.rules.specs.declared.Format.the-variants.{Pec}
+use Rattle.read_records.specs.declared.Row.{Row}
+use Rattle.read_records.specs.declared.Row.the-variants.{Pec}
 use Rattle.rules.specs.declared.Record.the-variants.{JumpBy}
-use Rattle.laws.specs.Ints.{abs-add}
+use mir.Syntax.{w32}
+use Rattle.laws.specs.Ints.{abs-add, ret}
 use Rattle.read_records.specs.Firsts.{firstOf}
 use Rattle.read_records.specs.Words.{axisStep}
 use Rattle.read_records.proofs.Formats.{Near, near}
@@ -21,27 +22,26 @@ use Rattle.read_passes.proofs.Turns.{bounded-next, read}
 use Rattle.read_passes.proofs.Loops.{reach, stays, small, ready-next, one-on}
 use Rattle.read_fill.specs.Turns.{Turned, Hopped, none, more, RoomHere}
 use Rattle.read_fill.specs.declared.turn.Turn.{Turn}
-use Rattle.read_builder.proofs.Places.{kept}
 use Rattle.read_passes.proofs.Found.{stepped}
 use Rattle.read_fill.proofs.Laws.{turn-hopped}
 
-pub room-here : {f : Format} {s : List ℕ} {c : ℕ → ℕ} {b : Builder} {at np nr nb : ℕ} → Ready f s c b at np nr nb → RoomHere f s b at np
+pub room-here : {f : Row} {s : List ℕ} {c : ℕ → ℕ} {b : Builder} {at np nr nb : ℕ} → Ready f s c b at np nr nb → RoomHere f s b at np
 room-here {c = c} {nr = nr} {nb = nb} g = record { colour = c; nr = nr; nb = nb; ready = g }
 
 -- ---- a row of jumps
 
 -- the row up to i, and the builder within its bounds
-pub record Row (s : List ℕ) (b : Builder) (from : ℕ) (q : Builder) (i : ℕ) : Type 0 where
+pub record HopRow (s : List ℕ) (b : Builder) (from : ℕ) (q : Builder) (i : ℕ) : Type 0 where
   pub hopped : Hopped s b from q i
   pub later : from ≤ i
   pub bounded : Bounded q i
   pub within : i ≤ length s
 
 module _ {s : List ℕ} {b : Builder} {from : ℕ} where
-  pub row-start : Bounded b from → from ≤ length s → Row s b from b from
+  pub row-start : Bounded b from → from ≤ length s → HopRow s b from b from
   row-start w l = record { hopped = none; later = omega arith; bounded = w; within = l }
 
-  module _ {q : Builder} {i : ℕ} (g : Row s b from q i) where
+  module _ {q : Builder} {i : ℕ} (g : HopRow s b from q i) where
     pub row-small : length s ≤ 2097152 → Small q
     row-small l = small Pec s (g .bounded) (g .within) l
 
@@ -49,7 +49,7 @@ module _ {s : List ℕ} {b : Builder} {from : ℕ} where
       row-reach : length s ≤ 2097152 → Reach q dx dy
       row-reach l = reach Pec s i (sym e) (g .bounded) (g .within) l
 
-      pub row-on : {r : Builder} {j : ℕ} → r ≡ jumped q (q .x +ℤ dx) (q .y +ℤ dy) → j ≡ i + n → Row s b from r j
+      pub row-on : {r : Builder} {j : ℕ} → r ≡ jumped q (q .x +ℤ dx) (q .y +ℤ dy) → j ≡ i + n → HopRow s b from r j
       row-on er ej =
           let k : Near (JumpBy dx dy n) (length (drop i s)) = rw e at (near Pec (drop i s)) in
           rw (er, ej) (record {
@@ -69,11 +69,11 @@ pub record Leap (s : List ℕ) (q : Builder) (i w y : ℕ) : Type 0 where
   pub at-x : read (q .x) ≡ q .x
   pub at-y : read (q .y) ≡ q .y
 
-pub leap : {s : List ℕ} {b q : Builder} {from i w y : ℕ} → Row s b from q i → firstOf Pec (drop i s) ≡ stepped JumpBy w y
+pub leap : {s : List ℕ} {b q : Builder} {from i w y : ℕ} → HopRow s b from q i → firstOf Pec (drop i s) ≡ stepped JumpBy w y
     → length s ≤ 2097152 → Leap s q i w y
 leap {q = q} g e l =
-    let r = row-reach g e l in
-    record { here = e; reach = r; at-x = kept (q .x) (omega arith); at-y = kept (q .y) (omega arith) }
+    let m = row-small g l in
+    record { here = e; reach = row-reach g e l; at-x = ret w32 (q .x) (m .x); at-y = ret w32 (q .y) (m .y) }
 
 -- no run is open in a row
 shut : {s : List ℕ} {b q : Builder} {from i : ℕ} → b .run ≡ 0 → Hopped s b from q i → q .run ≡ 0

@@ -7,16 +7,15 @@ use lib.IntN.{ℤ, _+ℤ_}
 use lib.ListN.{length, drop, length-append}
 use lib.Seq.{sets, length-sets}
 use Rattle.rules.specs.Answers.{startOf, runOf, blockOf}
-use Rattle.rules.specs.declared.Format.the-variants.{Pes, Pec, Dst, Exp, Jef}
 use Rattle.rules.specs.Limits.{blockCells}
-use Rattle.rules.specs.declared.Format.{Format}
+use Rattle.read_records.specs.declared.Row.{Row}
 use Rattle.rules.specs.declared.Record.the-variants.{StitchBy, JumpBy, ChangeBy, Finish}
 use Rattle.read_records.specs.Firsts.{firstOf}
 use Rattle.read_builder.specs.Builders.{Small, Reach, stitched, jumped, changed}
 use Rattle.read_builder.specs.declared.Builder.{Builder}
 use Rattle.read_passes.specs.Walks.{Ready, none}
 use Rattle.read_passes.proofs.Loops.{later, ready-small, ready-reach, ready-holds, ready-next, one-on}
-use Rattle.read_fill.specs.Turns.{rowOf, Turned}
+use Rattle.read_fill.specs.Turns.{Turned}
 
 -- what `sew` asks, and what it makes
 abbrev pub CanSew : Builder → ℤ → ℤ → ℕ → Type 0
@@ -26,7 +25,7 @@ abbrev pub Sewed : Builder → ℤ → ℤ → Builder → List ℤ → List ℤ
 Sewed b dx dy q P P′ = (q ≡ stitched b (b .x +ℤ dx) (b .y +ℤ dy))
     × (P′ ≡ sets P (2 * b .points) (startOf (b .run) (b .x) (b .y) ++ (b .x +ℤ dx) ∷ (b .y +ℤ dy) ∷ []))
 
-module _ {f : Format} {bytes : List ℕ} {c : ℕ → ℕ} {b : Builder} {at np nr nb : ℕ} (g : Ready f bytes c b at np nr nb) {dx dy : ℤ}
+module _ {f : Row} {bytes : List ℕ} {c : ℕ → ℕ} {b : Builder} {at np nr nb : ℕ} (g : Ready f bytes c b at np nr nb) {dx dy : ℤ}
     {n : ℕ} where
   pub can-sew : firstOf f (drop at bytes) ≡ StitchBy dx dy n → CanSew b dx dy np
   can-sew e = (ready-small f bytes c g, (ready-reach f bytes c g (sym e), simp length-append at (ready-holds f bytes c g (sym e) .places)))
@@ -40,7 +39,7 @@ module _ {f : Format} {bytes : List ℕ} {c : ℕ → ℕ} {b : Builder} {at np 
       let h = ready-holds f bytes c g (sym e) in
       (ready-small f bytes c g, (ready-reach f bytes c g (sym e), (h .runs, h .blocks)))
 
-module _ {f : Format} {bytes : List ℕ} {c : ℕ → ℕ} {b : Builder} {at : ℕ} (l : at < length bytes) {P : List ℤ} {R B : List ℕ} where
+module _ {f : Row} {bytes : List ℕ} {c : ℕ → ℕ} {b : Builder} {at : ℕ} (l : at < length bytes) {P : List ℤ} {R B : List ℕ} where
   pub turn-end : firstOf f (drop at bytes) ≡ Finish → Turned f bytes c b at P P R R B B (record { b = b; at = length bytes })
   turn-end e = record { went = one-on f bytes c none (sym e) refl refl refl refl refl; later = l }
 
@@ -62,7 +61,7 @@ module _ {f : Format} {bytes : List ℕ} {c : ℕ → ℕ} {b : Builder} {at : �
         record { went = one-on f bytes c none (sym e) (w .0) refl refl (w .1 .0) (w .1 .1); later = later f bytes at (sym e) l }
 
 -- two stitches in a turn
-module _ {f : Format} {bytes : List ℕ} {b : Builder} {at : ℕ} {dx dy : ℤ} {n : ℕ} (e : firstOf f (drop at bytes) ≡ StitchBy dx dy n)
+module _ {f : Row} {bytes : List ℕ} {b : Builder} {at : ℕ} {dx dy : ℤ} {n : ℕ} (e : firstOf f (drop at bytes) ≡ StitchBy dx dy n)
     {q : Builder} (P : List ℤ) {P₁ : List ℤ} (w : Sewed b dx dy q P P₁) {ex ey : ℤ} {m : ℕ}
     (e₂ : firstOf f (drop (at + n) bytes) ≡ StitchBy ex ey m) where
   pub can-again : {c : ℕ → ℕ} {nr nb : ℕ} → Ready f bytes c b at (length P) nr nb → CanSew q ex ey (length P₁)
@@ -78,17 +77,8 @@ module _ {f : Format} {bytes : List ℕ} {b : Builder} {at : ℕ} {dx dy : ℤ} 
     later = omega (arith, later f bytes at (sym e) l);
   })
 
--- PES and PEC
-pub same-row : (f : Format) → firstOf f ≡ firstOf (rowOf f)
-unfolding firstOf
-same-row Pes = refl
-same-row Pec = refl
-same-row Dst = refl
-same-row Exp = refl
-same-row Jef = refl
-
 -- a turn's end by another sum
-pub turned-at : {f : Format} {bytes : List ℕ} {c : ℕ → ℕ} {b q : Builder} {at i j : ℕ} {P P′ : List ℤ} {R R′ B B′ : List ℕ}
+pub turned-at : {f : Row} {bytes : List ℕ} {c : ℕ → ℕ} {b q : Builder} {at i j : ℕ} {P P′ : List ℤ} {R R′ B B′ : List ℕ}
     → Turned f bytes c b at P P′ R R′ B B′ (record { b = q; at = j }) → i ≡ j
     → Turned f bytes c b at P P′ R R′ B B′ (record { b = q; at = i })
 turned-at t e = rw e t

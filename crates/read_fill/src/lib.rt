@@ -11,8 +11,8 @@ use crate::steps::fill_steps;
 use crate::triples::fill_triples;
 use read_builder::Builder;
 use read_passes::settle;
+use read_records::Row;
 use rules::Counts;
-use rules::Format;
 ghost use mathlib.Core.Path.{_≡_};
 ghost use Prim.Native.Nat.{_≤_};
 ghost use lib.ListN.{length};
@@ -23,31 +23,31 @@ ghost use Rattle.read_records.specs.Firsts.{firstOf};
 ghost use Rattle.read_builder.specs.Builders.{origin};
 ghost use Rattle.read_builder.specs.Colour.{colourIn};
 ghost use Rattle.read_passes.specs.Told.{placesIn, runsIn, blocksIn, Told, Fits};
-ghost use Rattle.read_fill.specs.Turns.{rowOf, Room, Ends};
+ghost use Rattle.read_fill.specs.Turns.{Room, Ends};
 
 // All records.
 fn fill_records(
-    f: Format,
+    f: Row,
     bytes: &[u8],
     colors: &[u32],
     places: &mut [i32],
     runs: &mut [u32],
     blocks: &mut [u32],
 ) -> Builder
-    requires { ⌜ Room (rowOf f) bytes colors origin 0 places runs blocks ⌝ }
-    ensures { λ q. ⌜ Ends (rowOf f) (was bytes) (was colors) places runs blocks q ⌝ }
+    requires { ⌜ Room f bytes colors origin 0 places runs blocks ⌝ }
+    ensures { λ q. ⌜ Ends f (was bytes) (was colors) places runs blocks q ⌝ }
 {
     match f {
-        Format::Pes | Format::Pec => fill_steps(bytes, colors, places, runs, blocks),
-        Format::Dst => fill_triples(bytes, colors, places, runs, blocks),
-        Format::Exp => fill_pairs(false, bytes, colors, places, runs, blocks),
-        Format::Jef => fill_pairs(true, bytes, colors, places, runs, blocks),
+        Row::Pec => fill_steps(bytes, colors, places, runs, blocks),
+        Row::Dst => fill_triples(bytes, colors, places, runs, blocks),
+        Row::Exp => fill_pairs(false, bytes, colors, places, runs, blocks),
+        Row::Jef => fill_pairs(true, bytes, colors, places, runs, blocks),
     }
 }
 
 // Writes the answers to the front of the buffers.
 pub fn fill(
-    f: Format,
+    f: Row,
     bytes: &[u8],
     colors: &[u32],
     places: &mut [i32],

@@ -8,10 +8,10 @@ use read_passes::answers::hop;
 use read_passes::answers::sew;
 use read_passes::fill_rest;
 use read_passes::last_turn;
+use read_records::Row;
 use read_records::bytes::minus8;
 use read_records::bytes::s8;
 use read_records::pair::kinds;
-use rules::Format;
 ghost use mathlib.Core.Path.{_≡_};
 ghost use Prim.Native.Nat.{_+_, _≤_};
 ghost use lib.Dec.{eqb};
@@ -19,7 +19,7 @@ ghost use lib.IntN.{pos, negℤ};
 ghost use lib.ListN.{length, getD};
 ghost use Rattle.rules.specs.Promises.{was};
 ghost use Rattle.rules.specs.Vocabulary.{pick, signed};
-ghost use Rattle.rules.specs.declared.Format.the-variants.{Exp, Jef};
+ghost use Rattle.read_records.specs.declared.Row.the-variants.{Exp, Jef};
 ghost use Rattle.read_builder.specs.Builders.{origin};
 ghost use Rattle.read_records.specs.Tables.{Kinds};
 ghost use Rattle.read_fill.specs.Turns.{Room, Turns, Ends};
@@ -117,13 +117,13 @@ fn turn_pair(
     }
 }
 
-fn format_of(jef: bool) -> Format
+fn row_of(jef: bool) -> Row
     ensures { λ r. ⌜ r ≡ pick jef Jef Exp ⌝ }
 {
     if jef {
-        return Format::Jef;
+        return Row::Jef;
     }
-    Format::Exp
+    Row::Exp
 }
 
 pub fn fill_pairs(
@@ -146,5 +146,5 @@ pub fn fill_pairs(
         b = t.b;
         at = t.at;
     }
-    fill_rest(format_of(jef), bytes, at, b, colors, places, runs, blocks)
+    fill_rest(row_of(jef), bytes, at, b, colors, places, runs, blocks)
 }

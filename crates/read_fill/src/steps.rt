@@ -10,6 +10,7 @@ use read_passes::answers::hop;
 use read_passes::answers::sew;
 use read_passes::fill_rest;
 use read_passes::last_turn;
+use read_records::Row;
 use read_records::words::eight;
 use read_records::words::first_of;
 use read_records::words::four;
@@ -22,13 +23,12 @@ use read_records::words::step_of;
 use read_records::words::top;
 use read_records::words::two_long;
 use read_records::words::two_short;
-use rules::Format;
 ghost use mathlib.Core.Path.{_≡_};
 ghost use mathlib.Core.Bool.{true};
 ghost use Prim.Native.Nat.{ℕ, _+_, _≤_, _<_};
 ghost use lib.ListN.{length};
 ghost use Rattle.rules.specs.Promises.{was};
-ghost use Rattle.rules.specs.declared.Format.the-variants.{Pec};
+ghost use Rattle.read_records.specs.declared.Row.the-variants.{Pec};
 ghost use Rattle.read_builder.specs.Builders.{origin};
 ghost use Rattle.read_records.specs.Tables.{PecSteps};
 ghost use Rattle.read_records.specs.Words.{fourAt, eightAt, masked};
@@ -226,5 +226,5 @@ pub fn fill_steps(
         b = t.b;
         at = t.at;
     }
-    fill_rest(Format::Pec, bytes, at, b, colors, places, runs, blocks)
+    fill_rest(Row::Pec, bytes, at, b, colors, places, runs, blocks)
 }

@@ -8,16 +8,16 @@ use read_passes::answers::hop;
 use read_passes::answers::sew;
 use read_passes::fill_rest;
 use read_passes::last_turn;
+use read_records::Row;
 use read_records::triples::dst_dx;
 use read_records::triples::dst_dy;
 use read_records::triples::x_steps;
 use read_records::triples::y_steps;
-use rules::Format;
 ghost use mathlib.Core.Path.{_≡_};
 ghost use Prim.Native.Nat.{_+_, _≤_};
 ghost use lib.ListN.{length};
 ghost use Rattle.rules.specs.Promises.{was};
-ghost use Rattle.rules.specs.declared.Format.the-variants.{Dst};
+ghost use Rattle.read_records.specs.declared.Row.the-variants.{Dst};
 ghost use Rattle.read_builder.specs.Builders.{origin};
 ghost use Rattle.read_records.specs.Tables.{xSteps, ySteps};
 ghost use Rattle.read_fill.specs.Turns.{Room, Turns, Ends};
@@ -82,5 +82,5 @@ pub fn fill_triples(
         b = t.b;
         at = t.at;
     }
-    fill_rest(Format::Dst, bytes, at, b, colors, places, runs, blocks)
+    fill_rest(Row::Dst, bytes, at, b, colors, places, runs, blocks)
 }

@@ -364,7 +364,7 @@ pub fn line_color(line: &[u8]) -> Slot
 }
 
 // A colour as one number, of 24 bits.
-fn number_of(c: Color) -> u32
+pub fn number_of(c: Color) -> u32
     ensures { λ r. ⌜ (r ≡ colorNumber c) × (r < 16777216) ⌝ }
 {
     65536 * (c.0 as u32) + 256 * (c.1 as u32) + (c.2 as u32)

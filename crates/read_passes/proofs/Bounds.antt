@@ -8,7 +8,7 @@ use Rattle.rules.specs.Answers.{places, runs, blocks, pointsAfter, begunAfter}
 use Rattle.rules.specs.Limits.{blockCells}
 use Rattle.read_records.specs.Firsts.{firstOf}
 use Rattle.rules.specs.Records.{Event, recordThen, events}
-use Rattle.rules.specs.declared.Format.{Format}
+use Rattle.read_records.specs.declared.Row.{Row}
 use Rattle.rules.specs.declared.Record.{Record}
 use Rattle.rules.specs.declared.Record.the-variants.{StitchBy, JumpBy, ChangeBy, Finish}
 use Rattle.laws.specs.Reading.{events-step}
@@ -54,7 +54,7 @@ limits-next Finish go N n m near h = record {
   blocks = λ c k. omega (arith, block-cells c k m);
 }
 
-module _ (f : Format) where
+module _ (f : Row) where
   -- by the number of bytes
   limits : (i : ℕ) (s : List ℕ) → length s < i → (n m : ℕ) → Limits (length s) n m (events (firstOf f) s)
   limits zero s h n m = absurd (omega arith)

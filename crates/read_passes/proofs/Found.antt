@@ -15,7 +15,7 @@ use Rattle.rules.specs.Dst.{dstFirst, under}
 use Rattle.rules.specs.Exp.{pairFirst}
 use Rattle.rules.specs.Pec.{pecFirst}
 use Rattle.rules.specs.Vocabulary.{pick, signed}
-use Rattle.rules.specs.declared.Format.the-variants.{Pec, Dst, Exp, Jef}
+use Rattle.read_records.specs.declared.Row.the-variants.{Pec, Dst, Exp, Jef}
 use Rattle.rules.specs.declared.Record.{Record}
 use Rattle.rules.specs.declared.Record.the-variants.{StitchBy, JumpBy, ChangeBy, Finish}
 use Rattle.read_records.specs.Firsts.{firstOf}

@@ -13,12 +13,13 @@ use Rattle.rules.specs.Files.{filled}
 use Rattle.read_records.specs.Firsts.{firstOf}
 use Rattle.rules.specs.Records.{Event, recordThen, events}
 use Rattle.rules.specs.declared.Counts.{Counts}
-use Rattle.rules.specs.declared.Format.{Format}
+use Rattle.read_records.specs.declared.Row.{Row}
 use Rattle.rules.specs.declared.Record.{Record}
 use Rattle.rules.specs.declared.Record.the-variants.{StitchBy, JumpBy, ChangeBy, Finish}
 use Rattle.rules.specs.declared.Verdict.the-variants.{Accepted}
 use Rattle.laws.specs.Buffers.{Writing, put-by, writing-start, writing-room, writing-more, writing-done, put-front}
 use Rattle.laws.specs.Ints.{abs-add}
+use Rattle.read_builder.proofs.Places.{mag-abs}
 use Rattle.laws.specs.Reading.{events-step, read-finish}
 use Rattle.read_records.proofs.Formats.{Near, near, inside}
 use Rattle.read_records.specs.Fields.{lenOf, dxOf, dyOf}
@@ -35,7 +36,7 @@ pub record Same (P : List ℤ) (R B : List ℕ) (P′ : List ℤ) (R′ B′ : L
   pub runs : length R′ ≡ length R
   pub blocks : length B′ ≡ length B
 
-module _ (f : Format) (bytes : List ℕ) where
+module _ (f : Row) (bytes : List ℕ) where
   abbrev coming : ℕ → List Event
   coming at = eventsFrom f bytes at
 
@@ -73,7 +74,7 @@ module _ (f : Format) (bytes : List ℕ) where
       read-finish (firstOf f) (inside f) (drop at bytes) (no-record (firstOf f (drop at bytes)) (rw z at (near f (drop at bytes))))
 
   pub small : {b : Builder} {at : ℕ} → Bounded b at → at ≤ length bytes → length bytes ≤ 2097152 → Small b
-  small w i s = omega (arith, w)
+  small {b} w i s = omega (arith, w, mag-abs (b .x), mag-abs (b .y))
 
   -- ---- one turn: r is the record at `at`
 
@@ -111,7 +112,15 @@ module _ (f : Format) (bytes : List ℕ) where
 
     module _ {b : Builder} (w : Bounded b at) (i : at ≤ length bytes) where
       pub reach : length bytes ≤ 2097152 → Reach b (dxOf r) (dyOf r)
-      reach s = record { x = omega (arith, w, this .dx, stays i); y = omega (arith, w, this .dy, stays i) }
+      reach s =
+          let size-x : natAbs (b .x +ℤ dxOf r) ≤ natAbs (b .x) + natAbs (dxOf r) = abs-add (b .x) (dxOf r) in
+          let size-y : natAbs (b .y +ℤ dyOf r) ≤ natAbs (b .y) + natAbs (dyOf r) = abs-add (b .y) (dyOf r) in
+          record {
+            step-x = omega (arith, w, this .dx, stays i, mag-abs (dxOf r));
+            step-y = omega (arith, w, this .dy, stays i, mag-abs (dyOf r));
+            x = omega (arith, w, this .dx, stays i, mag-abs (b .x +ℤ dxOf r));
+            y = omega (arith, w, this .dy, stays i, mag-abs (b .y +ℤ dyOf r));
+          }
 
       still-bounded : (x y : ℤ) → natAbs x ≤ 1000 * (at + lenOf r) → natAbs y ≤ 1000 * (at + lenOf r) → Bounded (followed b r x y) (placeAfter r at (length bytes))
       still-bounded x y hx hy = bounded-next b at (length bytes) r x y w (this .fair) (stays i) hx hy
@@ -188,7 +197,7 @@ module _ (f : Format) (bytes : List ℕ) where
 
     module _ {b : Builder} {at np nr nb : ℕ} (g : Ready f bytes c b at np nr nb) where
       pub ready-small : Small b
-      ready-small = omega (arith, g .bounded, g .within, g .short)
+      ready-small = small (g .bounded) (g .within) (g .short)
 
       module _ {r : Record} (e : r ≡ firstOf f (drop at bytes)) where
         pub ready-reach : Reach b (dxOf r) (dyOf r)
@@ -306,13 +315,13 @@ module _ (f : Format) (bytes : List ℕ) where
 
 -- ---- a loop over the records that begins with b₀ at `from`
 
-pub record Going (f : Format) (bytes : List ℕ) (c : ℕ → ℕ) (b₀ : Builder) (from : ℕ) (P₀ : List ℤ) (R₀ B₀ : List ℕ)
+pub record Going (f : Row) (bytes : List ℕ) (c : ℕ → ℕ) (b₀ : Builder) (from : ℕ) (P₀ : List ℤ) (R₀ B₀ : List ℕ)
     (b : Builder) (at : ℕ) (P : List ℤ) (R B : List ℕ) : Type 0 where
   pub went : Went f bytes c b₀ from P₀ R₀ B₀ b at P R B
   pub ready : Ready f bytes c b at (length P) (length R) (length B)
   pub same : Same P₀ R₀ B₀ P R B
 
-module _ {f : Format} {bytes : List ℕ} {c : ℕ → ℕ} {b₀ : Builder} {from : ℕ} {P₀ : List ℤ} {R₀ B₀ : List ℕ} where
+module _ {f : Row} {bytes : List ℕ} {c : ℕ → ℕ} {b₀ : Builder} {from : ℕ} {P₀ : List ℤ} {R₀ B₀ : List ℕ} where
   pub going-start : {b : Builder} → b ≡ b₀ → Ready f bytes c b₀ from (length P₀) (length R₀) (length B₀)
       → Going f bytes c b₀ from P₀ R₀ B₀ b from P₀ R₀ B₀
   going-start e g = rw e (record { went = none; ready = g; same = record { places = refl; runs = refl; blocks = refl } })

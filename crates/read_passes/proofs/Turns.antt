@@ -12,7 +12,6 @@ use mir.Facts.{toZ-ofZ}
 use mir.Syntax.{w32}
 use mir.Val.{SFits, hbits, toZ, ofZ}
 use Rattle.laws.specs.Ints.{ret}
-use Rattle.read_builder.proofs.Places.{kept}
 use Rattle.rules.specs.Answers.{places, runs, blocks, startOf, pointsAfter, begunAfter}
 use Rattle.rules.specs.Limits.{blockCells}
 use Rattle.laws.specs.Buffers.{sets-append}
@@ -128,9 +127,9 @@ pub reads : {z v : ℤ} → mag z < 2 ^ hbits w32 → z ≡ v → read z ≡ v
 reads {z} h e = ret w32 z h ∙ e
 
 -- a sum of two such
-pub summed : (u : ℤ) {z d : ℤ} → mag z < 2 ^ hbits w32 → z ≡ read u +ℤ read d → natAbs u < 2 ^ 31 → SFits w32 d → read z ≡ u +ℤ d
-summed u h e k f = reads h (rw (kept u k, toZ-ofZ f) at e)
+pub summed : (u : ℤ) {z d : ℤ} → mag z < 2 ^ hbits w32 → z ≡ read u +ℤ read d → mag u < 2 ^ 31 → SFits w32 d → read z ≡ u +ℤ d
+summed u h e k f = reads h (rw (ret w32 u k, toZ-ofZ f) at e)
 
 -- a step that stays in reach
 pub step-reads : {b : Builder} {dx dy : ℤ} → Reach b dx dy → (read dx ≡ dx) × (read dy ≡ dy)
-step-reads {dx = dx} {dy = dy} h = (kept dx (omega arith), kept dy (omega arith))
+step-reads {dx = dx} {dy = dy} h = (ret w32 dx (h .step-x), ret w32 dy (h .step-y))

@@ -8,7 +8,7 @@ use lib.Seq.{sets}
 use Rattle.rules.specs.Answers.{places, runs, blocks}
 use Rattle.rules.specs.Limits.{blockCells}
 use Rattle.rules.specs.Records.{Event, events}
-use Rattle.rules.specs.declared.Format.{Format}
+use Rattle.read_records.specs.declared.Row.{Row}
 use Rattle.rules.specs.declared.Record.{Record}
 use Rattle.read_records.specs.Fields.{dxOf, dyOf}
 use Rattle.read_records.specs.Firsts.{firstOf}
@@ -42,7 +42,7 @@ pub record Bounded (b : Builder) (at : ℕ) : Type 0 where
   pub blocks : b .blocks ≤ at
   pub fewer : b .blocks + some (b .begun) ≤ b .runs + some (b .run)
 
-module _ (f : Format) (bytes : List ℕ) where
+module _ (f : Row) (bytes : List ℕ) where
   -- the events from `at` on
   abbrev pub eventsFrom : ℕ → List Event
   eventsFrom at = events (firstOf f) (drop at bytes)

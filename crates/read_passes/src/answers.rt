@@ -32,7 +32,7 @@ fn put_point(places: &mut [i32], i: u32, x: i32, y: i32)
 }
 
 // The open run, if there is one.
-fn put_run(b: Builder, runs: &mut [u32])
+pub fn put_run(b: Builder, runs: &mut [u32])
     requires { ⌜ b .runs + length (runOf (b .run)) ≤ length (now runs) ⌝ }
     ensures { λ _. ⌜ left runs ≡ sets (was runs) (b .runs) (runOf (b .run)) ⌝ }
 {
@@ -44,16 +44,16 @@ fn put_run(b: Builder, runs: &mut [u32])
 }
 
 // The block, if it has runs: number, colour, runs.
-fn put_block(b: Builder, colors: &[u32], blocks: &mut [u32])
-    requires { ⌜ blockCells * b .blocks + length (blockOf (colourIn (now colors)) (b .block) (b .begun)) ≤ length (now blocks) ⌝ }
-    ensures { λ _. ⌜ left blocks ≡ sets (was blocks) (blockCells * b .blocks) (blockOf (colourIn (was colors)) (b .block) (b .begun)) ⌝ }
+pub fn put_block(b: Builder, color: u32, blocks: &mut [u32])
+    requires { ⌜ blockCells * b .blocks + length (blockOf (λ k. color) (b .block) (b .begun)) ≤ length (now blocks) ⌝ }
+    ensures { λ _. ⌜ left blocks ≡ sets (was blocks) (blockCells * b .blocks) (blockOf (λ k. color) (b .block) (b .begun)) ⌝ }
 {
     if b.begun == 0 {
         return;
     }
     let at = BLOCK_CELLS * (b.blocks as usize);
     blocks[at] = b.block;
-    blocks[at + 1] = color_of(colors, b.block);
+    blocks[at + 1] = color;
     blocks[at + 2] = b.begun;
 }
 
@@ -65,7 +65,7 @@ pub fn close(b: Builder, colors: &[u32], runs: &mut [u32], blocks: &mut [u32])
     ensures { λ _. ⌜ left blocks ≡ sets (was blocks) (blockCells * b .blocks) (blockOf (colourIn (was colors)) (b .block) (b .begun)) ⌝ }
 {
     put_run(b, runs);
-    put_block(b, colors, blocks);
+    put_block(b, color_of(colors, b.block), blocks);
 }
 
 // A stitch by (dx, dy). The place that it leaves is put too, where it opens a run. Each branch has a call of its own, so that the

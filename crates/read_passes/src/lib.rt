@@ -8,10 +8,10 @@ use read_builder::Builder;
 use read_builder::counts;
 use read_builder::finish;
 use read_builder::place_after;
+use read_records::Row;
 use read_records::record_at;
 use rules::BLOCK_CELLS;
 use rules::Counts;
-use rules::Format;
 ghost use mathlib.Core.Bool.{true};
 ghost use mathlib.Core.Path.{_≡_};
 ghost use Prim.Native.Nat.{ℕ, _+_, _*_, _≤_, _<_};
@@ -27,7 +27,7 @@ ghost use Rattle.read_passes.specs.Walks.{Ready, Ended};
 
 // One record after the other, from byte `from` on, to the end.
 pub fn fill_rest(
-    f: Format,
+    f: Row,
     bytes: &[u8],
     from: usize,
     first: Builder,

@@ -13,8 +13,8 @@ use Rattle.rules.specs.Exp.{two, control, after80, pairFirst}
 use Rattle.rules.specs.Dst.{bit, weigh, dstX, dstY, under, dstRecord, dstFirst}
 use Rattle.rules.specs.Pec.{Axis, axis, none, longAxis, axisOf, afterAxis, bothAxes, starts, pecChange, pecFirst}
 use Rattle.read_records.specs.Firsts.{firstOf}
-use Rattle.rules.specs.declared.Format.{Format}
-use Rattle.rules.specs.declared.Format.the-variants.{Pes, Pec, Dst, Exp, Jef}
+use Rattle.read_records.specs.declared.Row.{Row}
+use Rattle.read_records.specs.declared.Row.the-variants.{Pec, Dst, Exp, Jef}
 use Rattle.rules.specs.declared.Record.{Record}
 use Rattle.rules.specs.declared.Record.the-variants.{StitchBy, JumpBy, ChangeBy, Finish}
 use Rattle.laws.specs.Ints.{abs-neg}
@@ -141,9 +141,8 @@ near-pec l = near-pick (starts 0xFF 0x00 l) (near-end _) (near-pick (starts 0xFE
 
 -- ---- every format
 
-pub near : (f : Format) (s : List ℕ) → Near (firstOf f s) (length s)
+pub near : (f : Row) (s : List ℕ) → Near (firstOf f s) (length s)
 unfolding firstOf
-near Pes s = near-pec s
 near Pec s = near-pec s
 near Dst s = near-dst s
 near Exp s = near-pair false s
@@ -156,5 +155,5 @@ within (ChangeBy dx dy m) n h = (omega arith, h .len)
 within Finish n h = tt
 
 -- so the laws of `Reading` hold
-pub inside : (f : Format) → Inside (firstOf f)
+pub inside : (f : Row) → Inside (firstOf f)
 inside f s = within (firstOf f s) (length s) (near f s)

@@ -5,12 +5,11 @@ use Prim.Native.Nat.{ℕ}
 use Rattle.rules.specs.Dst.{dstFirst}
 use Rattle.rules.specs.Pec.{pecFirst}
 use Rattle.rules.specs.Exp.{pairFirst}
-use Rattle.rules.specs.declared.Format.{Format}
-use Rattle.rules.specs.declared.Format.the-variants.{Pes, Pec, Dst, Exp, Jef}
+use Rattle.read_records.specs.declared.Row.{Row}
+use Rattle.read_records.specs.declared.Row.the-variants.{Pec, Dst, Exp, Jef}
 use Rattle.rules.specs.declared.Record.{Record}
 
-unfoldable pub firstOf : Format → List ℕ → Record
-firstOf Pes s = pecFirst s
+unfoldable pub firstOf : Row → List ℕ → Record
 firstOf Pec s = pecFirst s
 firstOf Dst s = dstFirst s
 firstOf Exp s = pairFirst false s

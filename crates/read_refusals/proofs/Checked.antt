@@ -1,6 +1,6 @@
 -- The checks of a file, in the order that the code has. Assumes nothing.
 use Prim.Native.Nat.{ℕ, _+_, _≤_, _<_}
-use mathlib.Core.Path.{_≡_, sym}
+use mathlib.Core.Path.{_≡_, sym, _∙_}
 use mathlib.Core.Bool.{true, false}
 use mathlib.Core.List.{List, [], _∷_}
 use native.Mathlib.Omega.{arith}
@@ -12,13 +12,20 @@ use lib.ListN.{length, getD}
 use Rattle.rules.specs.Refusals.{verdict}
 use Rattle.rules.specs.Pec.{noCount}
 use Rattle.rules.specs.Pes.{partAt}
-use Rattle.rules.specs.Files.{fileRefusals}
+use Rattle.rules.specs.Files.{eventsOf, colourOf, placesOf, runsOf, blocksOf, fileRefusals}
+use Rattle.rules.specs.Vp3.{vp3Opening, rowOf, faultIn, eventsIn, vp3Blocks}
 use Rattle.rules.specs.Text.{begins, wordAt}
+use Rattle.rules.specs.declared.Counts.{Counts}
 use Rattle.rules.specs.declared.Format.{Format}
-use Rattle.rules.specs.declared.Format.the-variants.{Pes, Pec, Dst, Exp, Jef}
-use Rattle.rules.specs.declared.Refusal.the-variants.{FileTooLong, NotPes, FileTooShort, StartBelowZero}
-use Rattle.laws.specs.Tests.{by-test}
-use Rattle.read_refusals.specs.Openings.{byteOf, started, frontOf, pecFront, pesFront, dstFront, jefFront}
+use Rattle.rules.specs.declared.Format.the-variants.{Pes, Pec, Dst, Exp, Jef, Vp3}
+use Rattle.rules.specs.declared.Refusal.{Refusal}
+use Rattle.rules.specs.declared.Refusal.the-variants.{FileTooLong, BadOpening, FileTooShort, StartBelowZero}
+use Rattle.rules.specs.declared.Verdict.the-variants.{Accepted, Refused}
+use Rattle.laws.specs.Tests.{by-test, false-true}
+use Rattle.read_vp3.proofs.Tallied.{counts-are}
+use Rattle.read_vp3.specs.Walks.{Told}
+use Rattle.read_refusals.proofs.Signature.{too-few}
+use Rattle.read_refusals.specs.Openings.{byteOf, started, frontOf, pecFront, pesFront, dstFront, jefFront, vp3Front}
 use Rattle.read_refusals.specs.declared.Byte.the-variants.{Value, Missing}
 use Rattle.read_refusals.specs.declared.Head.the-variants as head
 use Rattle.read_refusals.specs.declared.Opening.the-variants.{At, Not}
@@ -53,7 +60,7 @@ module _ (start : ℕ) (s : List ℕ) where
       (λ e. rw (e, lt-ltb (start + 48) (length s) (leb-false _ _ e)))
 
 module _ (s : List ℕ) where
-  pub pes-unlike : begins (0x23 ∷ 0x50 ∷ 0x45 ∷ 0x53 ∷ []) s ≡ false → Not NotPes ≡ pesFront s
+  pub pes-unlike : begins (0x23 ∷ 0x50 ∷ 0x45 ∷ 0x53 ∷ []) s ≡ false → Not BadOpening ≡ pesFront s
   unfolding pesFront verdict
   pes-unlike b = rw b
 
@@ -87,6 +94,24 @@ module _ (s : List ℕ) where
   unfolding jefFront verdict
   jef-whole t = rw (le-ltb (length s) 4 (t .0), t .1)
 
+  pub vp3-unlike : begins vp3Opening s ≡ false → Not BadOpening ≡ vp3Front s
+  unfolding vp3Front verdict
+  vp3-unlike b = rw b
+
+  module _ (b : begins vp3Opening s ≡ true) where
+    pub vp3-faulty : {r : Refusal} → faultIn (vp3Blocks s) ≡ Refused r → Not r ≡ vp3Front s
+    unfolding vp3Front verdict rowOf
+    vp3-faulty e = rw (b, e)
+
+    pub vp3-sound : {k : Counts} → faultIn (vp3Blocks s) ≡ Accepted → Told (eventsIn (vp3Blocks s)) k → At (head.Vp3 k) ≡ vp3Front s
+    unfolding vp3Front verdict rowOf placesOf runsOf blocksOf eventsOf
+    vp3-sound e t = rw (b, e, counts-are (eventsIn (vp3Blocks s)) (colourOf Vp3 s) t)
+
+    -- it is long enough to be gone through
+    pub vp3-opened : 6 ≤ length s
+    unfolding vp3Opening
+    vp3-opened = by-test (ltb (length s) 6) (λ t. false-true (sym (too-few vp3Opening s (ltb-true _ _ t)) ∙ b)) (ltb-false _ _)
+
   -- ---- every format: first that the file is not too long
 
   pub too-long : (f : Format) → 2097152 < length s → Not FileTooLong ≡ frontOf f s
@@ -113,3 +138,7 @@ module _ (s : List ℕ) where
     pub of-jef : jefFront s ≡ frontOf Jef s
     unfolding frontOf jefFront fileRefusals verdict
     of-jef = rw (le-ltb 2097152 (length s) h)
+
+    pub of-vp3 : vp3Front s ≡ frontOf Vp3 s
+    unfolding frontOf vp3Front fileRefusals verdict
+    of-vp3 = rw (le-ltb 2097152 (length s) h)

@@ -11,7 +11,7 @@ use Rattle.rules.specs.Files.{fileRefusals, fileVerdict, labelOf, labelUnder, l
 use Rattle.rules.specs.declared.Extension.{Extension}
 use Rattle.rules.specs.declared.Extension.the-variants.{Of, Unknown}
 use Rattle.rules.specs.declared.Format.{Format}
-use Rattle.rules.specs.declared.Format.the-variants.{Pes, Pec, Dst, Exp, Jef}
+use Rattle.rules.specs.declared.Format.the-variants.{Pes, Pec, Dst, Exp, Jef, Vp3}
 use Rattle.rules.specs.declared.Refusal.{Refusal}
 use Rattle.rules.specs.declared.Refusal.the-variants.{UnknownExtension}
 use Rattle.rules.specs.declared.Verdict.{Verdict}
@@ -51,6 +51,7 @@ label-by Pec s = refl
 label-by Dst s = refl
 label-by Exp s = refl
 label-by Jef s = refl
+label-by Vp3 s = refl
 
 module _ (f : Format) (s : List ℕ) where
   pub no-label : {r : Refusal} → frontOf f s ≡ Not r → labelAnswered (fileVerdict (Of f) s) s (labelTold (Of f) s) (answer.Not r)

@@ -26,3 +26,15 @@ by-bytes (w ∷ []) a b c d h = absurd (omega arith)
 by-bytes (w ∷ x ∷ []) a b c d h = absurd (omega arith)
 by-bytes (w ∷ x ∷ y ∷ []) a b c d h = absurd (omega arith)
 by-bytes (w ∷ x ∷ y ∷ z ∷ s) a b c d h = rw and-true
+
+-- and so are six
+pub by-six : (s : List ℕ) (a b c d e f : ℕ) → 6 ≤ length s → begins (a ∷ b ∷ c ∷ d ∷ e ∷ f ∷ []) s
+    ≡ (eqb (getD s 0 0) a && (eqb (getD s 1 0) b && (eqb (getD s 2 0) c && (eqb (getD s 3 0) d && (eqb (getD s 4 0) e && eqb (getD s 5 0) f)))))
+unfolding begins sameBytes
+by-six [] a b c d e f h = absurd (omega arith)
+by-six (t ∷ []) a b c d e f h = absurd (omega arith)
+by-six (t ∷ u ∷ []) a b c d e f h = absurd (omega arith)
+by-six (t ∷ u ∷ v ∷ []) a b c d e f h = absurd (omega arith)
+by-six (t ∷ u ∷ v ∷ w ∷ []) a b c d e f h = absurd (omega arith)
+by-six (t ∷ u ∷ v ∷ w ∷ x ∷ []) a b c d e f h = absurd (omega arith)
+by-six (t ∷ u ∷ v ∷ w ∷ x ∷ y ∷ s) a b c d e f h = rw and-true

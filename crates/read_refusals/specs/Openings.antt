@@ -9,10 +9,10 @@ use Rattle.rules.specs.Dst.{lastLabel}
 use Rattle.rules.specs.Pec.{pecLabel}
 use Rattle.rules.specs.Pes.{partAt}
 use Rattle.rules.specs.Formats.{layoutOf}
-use Rattle.rules.specs.Files.{fileRefusals}
+use Rattle.rules.specs.Files.{placesOf, runsOf, blocksOf, countsOf, fileRefusals}
 use Rattle.rules.specs.Refusals.{verdict}
 use Rattle.rules.specs.declared.Format.{Format}
-use Rattle.rules.specs.declared.Format.the-variants.{Pes, Pec, Dst, Exp, Jef}
+use Rattle.rules.specs.declared.Format.the-variants.{Pes, Pec, Dst, Exp, Jef, Vp3}
 use Rattle.rules.specs.declared.Refusal.the-variants.{FileTooShort}
 use Rattle.rules.specs.declared.Verdict.{Verdict}
 use Rattle.rules.specs.declared.Verdict.the-variants.{Accepted, Refused}
@@ -26,13 +26,14 @@ use Rattle.read_refusals.specs.declared.Opening.the-variants.{At, Not}
 abbrev pub byteOf : ℕ → ℕ → List ℕ → Byte
 byteOf start k s = pick (ltb (start + k) (length s)) (Value (getD s (start + k) 0)) Missing
 
--- a PEC part begins at 8 in a PEC file, where a PES says in that; a JEF file begins with its offset
+-- a PEC part begins at 8 in a PEC file, where a PES says in that; a JEF file begins with its offset; a VP3 file is counted
 abbrev pub headOf : Format → List ℕ → Head
 headOf Pes s = head.Pec (partAt s) (getD s (partAt s + 48) 0)
 headOf Pec s = head.Pec 8 (getD s 56 0)
 headOf Dst s = head.Dst
 headOf Exp s = head.Exp
 headOf Jef s = head.Jef (wordAt 0 s)
+headOf Vp3 s = head.Vp3 (countsOf (placesOf Vp3 s) (runsOf Vp3 s) (blocksOf Vp3 s))
 
 -- the label by the head
 abbrev pub labelBy : Head → List ℕ → List ℕ
@@ -40,6 +41,7 @@ labelBy (head.Pec start count) s = pecLabel start s
 labelBy head.Dst s = trimmed (lastLabel [] (linesOf (take 512 s)))
 labelBy head.Exp s = []
 labelBy (head.Jef offset) s = []
+labelBy (head.Vp3 counts) s = []
 
 -- the head, where the checks accept
 abbrev pub started : Verdict → Head → Opening
@@ -58,6 +60,9 @@ pesFront s = started (verdict (layoutOf Pes .refusals s)) (headOf Pes s)
 
 unfoldable pub dstFront : List ℕ → Opening
 dstFront s = started (verdict (layoutOf Dst .refusals s)) (headOf Dst s)
+
+unfoldable pub vp3Front : List ℕ → Opening
+vp3Front s = started (verdict (layoutOf Vp3 .refusals s)) (headOf Vp3 s)
 
 unfoldable pub jefFront : List ℕ → Opening
 jefFront s = started (verdict (layoutOf Jef .refusals s)) (headOf Jef s)

@@ -7,6 +7,9 @@ use read_header::dst_label_at;
 use read_header::i32le;
 use read_header::part;
 use read_header::pec_label_at;
+use read_vp3::Checked;
+use read_vp3::check;
+use rules::Counts;
 use rules::DST_HEADER;
 use rules::Extension;
 use rules::Format;
@@ -16,12 +19,15 @@ ghost use mathlib.Core.Path.{_≡_};
 ghost use mathlib.Core.List.{[], _∷_};
 ghost use Rattle.read_header.specs.Spans.{Holds};
 ghost use Rattle.rules.specs.Files.{fileVerdict, labelTold};
+ghost use Prim.Native.Nat.{_≤_};
+ghost use lib.ListN.{length};
 ghost use Rattle.rules.specs.Text.{begins};
+ghost use Rattle.rules.specs.Vp3.{vp3Opening};
 ghost use Rattle.rules.specs.Refusals.{extensionOf};
 ghost use Rattle.rules.specs.Promises.{was};
 ghost use Rattle.rules.specs.declared.Extension.the-variants.{Of};
 ghost use Rattle.read_refusals.specs.Labels.{labelAnswered};
-ghost use Rattle.read_refusals.specs.Openings.{byteOf, labelBy, pecFront, pesFront, dstFront, jefFront, frontOf};
+ghost use Rattle.read_refusals.specs.Openings.{byteOf, labelBy, pecFront, pesFront, dstFront, jefFront, vp3Front, frontOf};
 
 // A byte, or a file that ends before it.
 pub enum Byte {
@@ -29,12 +35,14 @@ pub enum Byte {
     Missing,
 }
 
-// What the reading of a file goes on from: a PEC part's start and its count byte, a JEF file's offset.
+// What the reading of a file goes on from: a PEC part's start and its count byte, a JEF file's offset, what the answers of a VP3 file
+// hold.
 pub enum Head {
     Pec { start: usize, count: u8 },
     Dst,
     Exp,
     Jef { offset: i32 },
+    Vp3 { counts: Counts },
 }
 
 // That, or why the file is refused.
@@ -96,7 +104,7 @@ fn pes_front(file: &[u8]) -> Opening
     ensures { λ r. ⌜ r ≡ pesFront (was file) ⌝ }
 {
     if !begins_pes(file) {
-        return Opening::Not(Refusal::NotPes);
+        return Opening::Not(Refusal::BadOpening);
     }
     let Word::Number(start) = i32le(file, 8) else {
         return Opening::Not(Refusal::FileTooShort);
@@ -125,7 +133,46 @@ fn jef_front(file: &[u8]) -> Opening
     Opening::At(Head::Jef { offset })
 }
 
-// Refusals 2 to 5, and what the reading goes on from if there is none of them.
+// `%vsm%` and a zero byte at the front.
+fn begins_vp3(file: &[u8]) -> bool
+    ensures { λ r. ⌜ r ≡ begins vp3Opening (was file) ⌝ }
+{
+    if file.len() < 6 {
+        return false;
+    }
+    if file[0] != 0x25 {
+        return false;
+    }
+    if file[1] != 0x76 {
+        return false;
+    }
+    if file[2] != 0x73 {
+        return false;
+    }
+    if file[3] != 0x6D {
+        return false;
+    }
+    if file[4] != 0x25 {
+        return false;
+    }
+    file[5] == 0x00
+}
+
+// A VP3 file is gone through to its end.
+fn vp3_front(file: &[u8]) -> Opening
+    requires { ⌜ length (now file) ≤ 2097152 ⌝ }
+    ensures { λ r. ⌜ r ≡ vp3Front (was file) ⌝ }
+{
+    if begins_vp3(file) {
+        return match check(file) {
+            Checked::Sound(counts) => Opening::At(Head::Vp3 { counts }),
+            Checked::Not(why) => Opening::Not(why),
+        };
+    }
+    Opening::Not(Refusal::BadOpening)
+}
+
+// Refusals 2 to 5 and 12, and what the reading goes on from if there is none of them.
 pub fn front(f: Format, file: &[u8]) -> Opening
     ensures { λ r. ⌜ r ≡ frontOf f (was file) ⌝ }
 {
@@ -138,6 +185,7 @@ pub fn front(f: Format, file: &[u8]) -> Opening
         Format::Dst => dst_front(file),
         Format::Exp => Opening::At(Head::Exp),
         Format::Jef => jef_front(file),
+        Format::Vp3 => vp3_front(file),
     }
 }
 
@@ -150,6 +198,7 @@ fn label_of_at(head: Head, file: &[u8]) -> Span
         Head::Dst => dst_label_at(file),
         Head::Exp => Span { start: 0, len: 0 },
         Head::Jef { .. } => Span { start: 0, len: 0 },
+        Head::Vp3 { .. } => Span { start: 0, len: 0 },
     }
 }
 
@@ -186,7 +235,7 @@ pub fn label_at(ext: &[u8], file: &[u8]) -> Span
     p
 }
 
-// The label of a file, as a part of it: empty for EXP and JEF, and under every refusal of reading but 11.
+// The label of a file, as a part of it: empty for EXP, JEF and VP3, and under every refusal of reading but 11.
 pub fn label<'a>(ext: &[u8], file: &'a [u8]) -> &'a [u8]
     ensures { λ r. ⌜ now r ≡ labelTold (extensionOf (was ext)) (was file) ⌝ }
 {

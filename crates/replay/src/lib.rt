@@ -59,8 +59,8 @@ pub fn verdict(right: bool) -> Outcome {
 
 // The right, the wrong and the skipped cases of a group are counted side by side.
 fn cell(group: usize, outcome: Outcome) -> usize
-    requires { ⌜ group < 6 ⌝ }
-    ensures { λ r. ⌜ r < 18 ⌝ }
+    requires { ⌜ group < 7 ⌝ }
+    ensures { λ r. ⌜ r < 21 ⌝ }
 {
     match outcome {
         Outcome::Right => 3 * group,
@@ -70,8 +70,8 @@ fn cell(group: usize, outcome: Outcome) -> usize
 }
 
 // No more cases are read than 32 bits count, so no count wraps.
-pub fn count(tally: &mut [u64; 18], group: usize, outcome: Outcome)
-    requires { ⌜ group < 6 ⌝ }
+pub fn count(tally: &mut [u64; 21], group: usize, outcome: Outcome)
+    requires { ⌜ group < 7 ⌝ }
 {
     let i = cell(group, outcome);
     tally[i] = std::num::wrapping_add_u64(tally[i], 1);
@@ -96,12 +96,13 @@ pub fn show(name: &[u8], right: u64, wrong: u64, skipped: u64) {
     io::write_all(STDOUT_FILENO, b"\n");
 }
 
-// A line for each group: the five formats, and cases of none of them.
-pub fn show_all(tally: &[u64; 18]) {
+// A line for each group: the formats, and cases of none of them.
+pub fn show_all(tally: &[u64; 21]) {
     show(b"pes", tally[0], tally[1], tally[2]);
     show(b"pec", tally[3], tally[4], tally[5]);
     show(b"dst", tally[6], tally[7], tally[8]);
     show(b"exp", tally[9], tally[10], tally[11]);
     show(b"jef", tally[12], tally[13], tally[14]);
-    show(b"other", tally[15], tally[16], tally[17]);
+    show(b"vp3", tally[15], tally[16], tally[17]);
+    show(b"other", tally[18], tally[19], tally[20]);
 }

@@ -14,13 +14,13 @@ use rules::Format;
 ghost use Prim.Native.Nat.{_<_};
 ghost use Rattle.replay_reads.specs.Room.{Roomy};
 
-// A case is counted under its format, or under 5 if its extension is none.
+// A case is counted under its format, or under 6 if its extension is none.
 fn group(case: &[u8]) -> usize
-    ensures { λ r. ⌜ r < 6 ⌝ }
+    ensures { λ r. ⌜ r < 7 ⌝ }
 {
     let named = extension_of(extension(case));
     let Extension::Of(f) = named else {
-        return 5;
+        return 6;
     };
     match f {
         Format::Pes => 0,
@@ -28,6 +28,7 @@ fn group(case: &[u8]) -> usize
         Format::Dst => 2,
         Format::Exp => 3,
         Format::Jef => 4,
+        Format::Vp3 => 5,
     }
 }
 
@@ -35,7 +36,7 @@ fn group(case: &[u8]) -> usize
 // as long as the case hold its answer, which stands in the case.
 fn replay_one(
     fd: i32,
-    tally: &mut [u64; 18],
+    tally: &mut [u64; 21],
     case: &mut [u8],
     places: &mut [i32],
     runs: &mut [u32],
@@ -60,7 +61,7 @@ fn replay_one(
 }
 
 // Goes through the list to its end, or through as many cases as 32 bits count.
-fn replay(fd: i32, tally: &mut [u64; 18]) {
+fn replay(fd: i32, tally: &mut [u64; 21]) {
     let mut case = [0u8; 65536];
     let mut places = [buffers::PLACE; 65536];
     let mut runs = [buffers::CELL; 65536];
@@ -80,7 +81,7 @@ fn main() {
         os::fail(b"reads");
         return;
     }
-    let mut tally = [0u64; 18];
+    let mut tally = [0u64; 21];
     replay(fd, &mut tally);
     libc::close(fd);
     replay::show_all(&tally);

@@ -13,21 +13,21 @@ ghost use Prim.Native.Nat.{_<_};
 ghost use lib.ListN.{length};
 ghost use Rattle.replay_writes.specs.Room.{Roomy};
 
-// A case is counted under its format, or under 5 if that is none.
+// A case is counted under its format, or under 6 if that is none.
 fn group(case: &[u8]) -> usize
-    ensures { λ r. ⌜ r < 6 ⌝ }
+    ensures { λ r. ⌜ r < 7 ⌝ }
 {
     if case.len() == 0 {
-        return 5;
+        return 6;
     }
     let format = byte(case, 0) as usize;
-    if format < 5 { format } else { 5 }
+    if format < 6 { format } else { 6 }
 }
 
 // The next case of the list; false if there is none. One that runs past the end is wrong.
 fn replay_one(
     fd: i32,
-    tally: &mut [u64; 18],
+    tally: &mut [u64; 21],
     case: &mut [u8],
     xs: &mut [i32],
     ys: &mut [i32],
@@ -51,7 +51,7 @@ fn replay_one(
 }
 
 // Goes through the list to its end, or through as many cases as 32 bits count.
-fn replay(fd: i32, tally: &mut [u64; 18]) {
+fn replay(fd: i32, tally: &mut [u64; 21]) {
     let mut case = [0u8; 65536];
     let mut xs = [0i32; 65536];
     let mut ys = [0i32; 65536];
@@ -72,7 +72,7 @@ fn main() {
         os::fail(b"writes");
         return;
     }
-    let mut tally = [0u64; 18];
+    let mut tally = [0u64; 21];
     replay(fd, &mut tally);
     libc::close(fd);
     replay::show_all(&tally);

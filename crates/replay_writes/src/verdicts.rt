@@ -20,7 +20,7 @@ ghost use Prim.Native.Nat.{_≤_};
 ghost use lib.ListN.{length};
 ghost use Rattle.replay_writes.specs.Room.{Roomy};
 
-// Formats are 0 to 4.
+// Formats are 0 to 5.
 fn extension(format: u8) -> [u8; 3]
     ensures { λ r. ⌜ 3 ≡ length r ⌝ }
 {
@@ -29,7 +29,8 @@ fn extension(format: u8) -> [u8; 3]
         1 => *b"pec",
         2 => *b"dst",
         3 => *b"exp",
-        _ => *b"jef",
+        4 => *b"jef",
+        _ => *b"vp3",
     }
 }
 
@@ -101,7 +102,7 @@ pub fn judged(
     if !is_whole(case) {
         return Outcome::Wrong;
     }
-    if 4 < byte(case, 0) {
+    if 5 < byte(case, 0) {
         return Outcome::Skipped;
     }
     let n = list_len(case);

@@ -88,7 +88,7 @@ fn round_trip(ext: &[u8], far: i32, places: &mut [i32]) {
     show(ext, &file, places, answer);
 }
 
-// An accepted list, the same with too little room for its places, and one with a step past every limit.
+// An accepted list, the same with too little room for its places, and one with a step past the limits of all formats but VP3.
 fn try_format(ext: &[u8]) {
     text(ext);
     number(b": at most ", write_bound(ext, 10, 2) as u64);
@@ -107,4 +107,5 @@ fn main() {
     try_format(b"dst");
     try_format(b"exp");
     try_format(b"jef");
+    try_format(b"vp3");
 }

@@ -6,8 +6,9 @@ use Rattle.rules.specs.Pec.{pecLayout}
 use Rattle.rules.specs.Pes.{pesLayout}
 use Rattle.rules.specs.Exp.{expLayout}
 use Rattle.rules.specs.Jef.{jefLayout}
+use Rattle.rules.specs.Vp3.{vp3Layout}
 use Rattle.rules.specs.declared.Format.{Format}
-use Rattle.rules.specs.declared.Format.the-variants.{Pes, Pec, Dst, Exp, Jef}
+use Rattle.rules.specs.declared.Format.the-variants.{Pes, Pec, Dst, Exp, Jef, Vp3}
 
 abbrev pub layoutOf : Format → Layout
 layoutOf Pes = pesLayout
@@ -15,6 +16,7 @@ layoutOf Pec = pecLayout
 layoutOf Dst = dstLayout
 layoutOf Exp = expLayout
 layoutOf Jef = jefLayout
+layoutOf Vp3 = vp3Layout
 
 abbrev pub formats : List Format
-formats = Pes ∷ Pec ∷ Dst ∷ Exp ∷ Jef ∷ []
+formats = Pes ∷ Pec ∷ Dst ∷ Exp ∷ Jef ∷ Vp3 ∷ []

@@ -13,6 +13,7 @@ pub mod Pec
 pub mod Pes
 pub mod Exp
 pub mod Jef
+pub mod Vp3
 pub mod Formats
 pub mod Refusals
 pub mod Answers

@@ -20,7 +20,7 @@ use Rattle.rules.specs.declared.Cmd.{Cmd}
 use Rattle.rules.specs.declared.Color.{Color}
 use Rattle.rules.specs.declared.Op.{Op}
 use Rattle.rules.specs.declared.Op.the-variants.{Stitch, Jump, Trim, ColorChange, End}
-use Rattle.rules.specs.declared.Refusal.the-variants.{NotPes, FileTooShort, StartBelowZero}
+use Rattle.rules.specs.declared.Refusal.the-variants.{BadOpening, FileTooShort, StartBelowZero}
 
 -- PES matrix fields are f32 and exact in this domain: the f32 nearest to z / 2
 unfoldable pub halves : ℤ → Float
@@ -178,7 +178,7 @@ pesLayout = record {
   least = negℤ (pos 2048);
   greatest = pos 2047;
   refusals = λ s.
-      (NotPes, not (begins (0x23 ∷ 0x50 ∷ 0x45 ∷ 0x53 ∷ []) s))
+      (BadOpening, not (begins (0x23 ∷ 0x50 ∷ 0x45 ∷ 0x53 ∷ []) s))
       ∷ (FileTooShort, ltb (length s) 12)
       ∷ (StartBelowZero, ltZ (wordAt 8 s) (pos 0))
       ∷ (FileTooShort, noCount (partAt s) s)

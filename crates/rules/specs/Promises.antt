@@ -15,12 +15,13 @@ use Rattle.rules.specs.Refusals.{numberOf, listVerdict}
 use Rattle.rules.specs.Files.{fileOf, fileTold, writeVerdict, writeAnswer, writeNumber, writeLength, filled}
 use Rattle.rules.specs.Files.{placesOf, runsOf, blocksOf, placesTold, runsTold, blocksTold, countsOf}
 use Rattle.rules.specs.Files.{fileVerdict, readVerdict, readAnswer, readNumber, readCounts, labelTold}
-use Rattle.rules.specs.Sewing.{listSewing, toldSewing}
+use Rattle.rules.specs.Sewing.{listSewing, toldSewing, listNeedles, toldNeedles}
 use Rattle.rules.specs.declared.Cmd.{Cmd}
 use Rattle.rules.specs.declared.Counts.{Counts}
 use Rattle.rules.specs.declared.Extension.{Extension}
 use Rattle.rules.specs.declared.Extension.the-variants.{Of, Unknown}
 use Rattle.rules.specs.declared.Format.{Format}
+use Rattle.rules.specs.declared.Format.the-variants.{Pes, Pec, Dst, Exp, Jef, Vp3}
 use Rattle.rules.specs.declared.ReadAnswer.{ReadAnswer}
 use Rattle.rules.specs.declared.RoundTripAnswer.{RoundTripAnswer}
 use Rattle.rules.specs.declared.RoundTripAnswer.the-variants.{NotWritten, NotRead, ReadBack}
@@ -143,6 +144,15 @@ roundTripCounts (NotWritten r) = record { points = 0; runs = 0; blocks = 0; cuts
 roundTripCounts (NotRead len r) = record { points = 0; runs = 0; blocks = 0; cuts = 0 }
 roundTripCounts (ReadBack len c) = c
 
+-- the formats of demand 3: VP3 drops jumps
+abbrev pub KeepsJumps : Format → Type 0
+KeepsJumps Pes = Unit {0}
+KeepsJumps Pec = Unit {0}
+KeepsJumps Dst = Unit {0}
+KeepsJumps Exp = Unit {0}
+KeepsJumps Jef = Unit {0}
+KeepsJumps Vp3 = ⊥
+
 -- buffers that hold a file and the answer of its read
 pub record Room (f : Format) (file out : List ℕ) (places : List ℤ) (runs blocks : List ℕ) : Type 0 where
   pub bytes : length file ≤ length out
@@ -160,14 +170,17 @@ module _ (e : Extension) (name : List ℕ) (xs ys : List ℤ) (kinds threads out
   abbrev pub reads : Verdict
   reads = readVerdict e theFile (length places) (length runs) (length blocks)
 
-  -- Demand 3: whatever the format that the extension names, if the list is accepted for it and the buffers hold the file and its answer,
-  -- nothing refuses, and what stands in the buffers sews what the list sews.
+  -- If the list is accepted for the format that the extension names, and the buffers hold the file and its answer, nothing refuses. Demand
+  -- 3: in the formats that keep jumps, what stands in the buffers sews what the list sews; in VP3 it has the needle places of the list.
   pub record Keeps (places′ : List ℤ) (runs′ blocks′ : List ℕ) (a : RoundTripAnswer) : Type 0 where
     pub unrefused : (f : Format) → e ≡ Of f → listVerdict f xs ys kinds threads ≡ Accepted
         → Room f (fileOf f name (commands xs ys kinds) threads) out places runs blocks → roundTripNumber a ≡ 0
-    pub sewn : (f : Format) → e ≡ Of f → listVerdict f xs ys kinds threads ≡ Accepted
+    pub sewn : (f : Format) → KeepsJumps f → e ≡ Of f → listVerdict f xs ys kinds threads ≡ Accepted
         → Room f (fileOf f name (commands xs ys kinds) threads) out places runs blocks
         → toldSewing (roundTripCounts a) places′ runs′ blocks′ ≡ listSewing (commands xs ys kinds)
+    pub needled : e ≡ Of Vp3 → listVerdict Vp3 xs ys kinds threads ≡ Accepted
+        → Room Vp3 (fileOf Vp3 name (commands xs ys kinds) threads) out places runs blocks
+        → toldNeedles (roundTripCounts a) places′ runs′ blocks′ ≡ listNeedles (commands xs ys kinds)
 
   -- `write_and_read`: not written, and nothing changed; or written but not read, and the file stands; or both
   pub record WroteAndRead (out′ : List ℕ) (places′ : List ℤ) (runs′ blocks′ : List ℕ) (a : RoundTripAnswer) : Type 0 where

@@ -14,8 +14,8 @@ use Rattle.rules.specs.declared.Format.{Format}
 use Rattle.rules.specs.declared.Extension.{Extension}
 use Rattle.rules.specs.declared.Extension.the-variants.{Of, Unknown}
 use Rattle.rules.specs.declared.Refusal.{Refusal}
-use Rattle.rules.specs.declared.Refusal.the-variants.{UnknownExtension, FileTooLong, NotPes, FileTooShort, StartBelowZero, BadList, PlaceOutside, TooMany, Moved}
-use Rattle.rules.specs.declared.Refusal.the-variants.{StepTooLong, BufferTooShort}
+use Rattle.rules.specs.declared.Refusal.the-variants.{UnknownExtension, FileTooLong, BadOpening, FileTooShort, StartBelowZero, BadList, PlaceOutside, TooMany, Moved}
+use Rattle.rules.specs.declared.Refusal.the-variants.{StepTooLong, BufferTooShort, OutOfRange}
 use Rattle.rules.specs.declared.Verdict.{Verdict}
 use Rattle.rules.specs.declared.Verdict.the-variants.{Accepted, Refused}
 
@@ -23,7 +23,7 @@ use Rattle.rules.specs.declared.Verdict.the-variants.{Accepted, Refused}
 unfoldable pub numberOf : Refusal → ℕ
 numberOf UnknownExtension = 1
 numberOf FileTooLong = 2
-numberOf NotPes = 3
+numberOf BadOpening = 3
 numberOf FileTooShort = 4
 numberOf StartBelowZero = 5
 numberOf BadList = 6
@@ -32,6 +32,7 @@ numberOf TooMany = 8
 numberOf Moved = 9
 numberOf StepTooLong = 10
 numberOf BufferTooShort = 11
+numberOf OutOfRange = 12
 
 -- An extension is compared without regard to ASCII case.
 unfoldable pub lower : ℕ → ℕ

@@ -24,7 +24,7 @@ use Rattle.rules.specs.Pes.{halves, matrixField, threadCode, runLength, 
 use Rattle.rules.specs.Pes.{opensSection, colorLog, pesString, shorts, pesBlocks, pesMiddle, pesFile, partAt}
 use Rattle.rules.specs.Records.{recordThen, events}
 use Rattle.rules.specs.Refusals.{badList, outside, placeOutside, changes, tooMany, moves, moved, leastStep, greatestStep, stepIn, stepsPast, stepTooLong, verdict}
-use Rattle.rules.specs.Sewing.{Entry, entry, blockAfter, sewsCmd, sews, listSewing, sewsRun, runSewing, runsSewing, cells, fileSewing}
+use Rattle.rules.specs.Sewing.{Entry, entry, blockAfter, sewsCmd, sews, listSewing, alongRun, ofRun, ofRuns, cells, ofBlocks, ofBuffers, fileSewing}
 use Rattle.rules.specs.Thumbnails.{atLeastOne, lesser, floorOf, within, pixel, painted, marked, drawn, atFront, colorBlocks, icons}
 use Rattle.rules.specs.Vocabulary.{between, all, any, count, keep, next, firstWhere, orElse, lastWhere, sameBytes, signed, bitsOf, little, fromLittle, joined}
 use Rattle.rules.specs.Vocabulary.{digitAt, right, padded, fuelled}
@@ -211,7 +211,7 @@ unfolding pointsAfter startOf places runOf runs blockOf begunAfter blocks pointT
     height threadsOf pecName dstName longAxis axisOf afterAxis bothAxes starts pecChange pecFirst wide pecValue pecStart pecNext pause pecCmd pecStitches distinct give
     givenTo foundOr uniquePalette pecColors pecHeader pecBlock pecPart pecFile halves matrixField threadCode runLength runX runY pesStart opens pesNext pesPoint pesOpen
     pesCmd pesSections sectionCount opensSection colorLog pesString shorts pesBlocks pesMiddle pesFile recordThen events badList outside placeOutside changes tooMany
-    moves moved stepsPast stepTooLong verdict entry blockAfter sewsCmd sews listSewing sewsRun runSewing runsSewing cells fileSewing atLeastOne lesser floorOf within
+    moves moved stepsPast stepTooLong verdict entry blockAfter sewsCmd sews listSewing alongRun ofRun ofRuns cells ofBlocks fileSewing atLeastOne lesser floorOf within
     pixel painted marked drawn atFront colorBlocks icons between all any count keep next firstWhere orElse lastWhere sameBytes signed bitsOf little fromLittle joined
     digitAt right padded fuelled add sub mul div neg lt ofInt ofBits round toBits partAt
 vectors = (refl, (refl, (refl, (refl, (refl, (refl, (refl, (refl, (refl, (refl, (refl, (refl, (refl, (refl, (refl, (refl, (refl, refl)))))))))))))))))

@@ -1,12 +1,13 @@
 // The vocabulary that the definitions of specs/ and the code share. There is no code here.
 
-// The five formats, named by their extensions.
+// The formats, named by their extensions.
 pub enum Format {
     Pes,
     Pec,
     Dst,
     Exp,
     Jef,
+    Vp3,
 }
 
 // What an extension names.
@@ -53,11 +54,11 @@ pub enum Previous {
     Entry(usize, Color),
 }
 
-// Why a call refuses, in the order of the numbers 1 to 11.
+// Why a call refuses, in the order of the numbers 1 to 12.
 pub enum Refusal {
     UnknownExtension,
     FileTooLong,
-    NotPes,
+    BadOpening,
     FileTooShort,
     StartBelowZero,
     BadList,
@@ -66,6 +67,7 @@ pub enum Refusal {
     Moved,
     StepTooLong,
     BufferTooShort,
+    OutOfRange,
 }
 
 // What the checks say.

@@ -72,7 +72,7 @@ fn split(out: &mut Buffer, input: &[u8]) -> usize
 }
 
 // The input buffer holds three bytes of extension, a newline and one byte more than a file may have. Of
-// more input the answer is known: a longer extension is none of the five, or the file is too long.
+// more input the answer is known: a longer extension is no format's, or the file is too long.
 fn main() {
     let mut input = [0u8; 65541];
     let n = io::read_full(STDIN_FILENO, &mut input);

@@ -42,7 +42,7 @@ pub fn refused(out: &mut Buffer, at: usize, why: Refusal) -> usize
     put_byte(out, to, b'\n')
 }
 
-// The extension in small letters, if it is one of the five.
+// The extension in small letters, if it is a format's.
 fn extension(out: &mut Buffer, at: usize, ext: &[u8]) -> usize
     requires { ⌜ at ≤ 65536 ⌝ }
     ensures { λ r. ⌜ r ≤ 65536 ⌝ }
@@ -57,6 +57,7 @@ fn extension(out: &mut Buffer, at: usize, ext: &[u8]) -> usize
         Format::Dst => put_text(out, at, b"dst"),
         Format::Exp => put_text(out, at, b"exp"),
         Format::Jef => put_text(out, at, b"jef"),
+        Format::Vp3 => put_text(out, at, b"vp3"),
     }
 }
 

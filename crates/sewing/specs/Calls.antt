@@ -19,19 +19,20 @@ use Rattle.rules.specs.Records.{Event, stitch, jump, change}
 use Rattle.rules.specs.Refusals.{verdict, listRefusals, listVerdict}
 use Rattle.rules.specs.Files.{fileOf, eventsOf, colourOf, placesOf, runsOf, blocksOf, readVerdict, placesTold, runsTold, blocksTold, countsOf, readAnswer, readNumber}
 use Rattle.rules.specs.Files.{readCounts, filled, fileTold, writeVerdict, writeAnswer, writeNumber, writeLength}
-use Rattle.rules.specs.Sewing.{Entry, listSewing, fileSewing, toldSewing}
-use Rattle.rules.specs.Promises.{Wrote, ReadOf, Room}
+use Rattle.rules.specs.Sewing.{Entry, entry, Adding, ofBlocks, ofBuffers, listSewing, fileSewing, toldSewing, Needle, needle, listNeedles, fileNeedles, toldNeedles}
+use Rattle.rules.specs.Promises.{Wrote, ReadOf, Room, KeepsJumps}
 use Rattle.rules.specs.declared.Cmd.{Cmd}
 use Rattle.rules.specs.declared.Extension.{Extension}
 use Rattle.rules.specs.declared.Extension.the-variants.{Of}
 use Rattle.rules.specs.declared.Format.{Format}
+use Rattle.rules.specs.declared.Format.the-variants.{Vp3}
 use Rattle.rules.specs.declared.ReadAnswer.{ReadAnswer}
 use Rattle.rules.specs.declared.ReadAnswer.the-variants.{Read}
 use Rattle.rules.specs.declared.Verdict.the-variants.{Accepted}
 use Rattle.rules.specs.declared.WriteAnswer.{WriteAnswer}
 use Rattle.rules.specs.declared.WriteAnswer.the-variants.{Written}
 use Rattle.laws.specs.Verdicts.{verdict-on}
-use Rattle.sewing.specs.Theorem.{kept, alike, read-accepted}
+use Rattle.sewing.specs.Theorem.{kept, kept-needles, alike, read-accepted}
 
 -- A list accepted for a format, written into a buffer that is long enough; the file is the front bytes of the length reported. It is read
 -- under
@@ -67,11 +68,19 @@ sewing t = listSewing (commands (t .xs) (t .ys) (t .kinds))
 abbrev pub back : RoundTrip → List Entry
 back t = toldSewing (readCounts (t .r)) (t .ps′) (t .rs′) (t .bs′)
 
--- neither call refuses, and the sewing that comes back is the list's
+-- the list's stitches, and the needle places that come back
+abbrev pub needles : RoundTrip → List Needle
+needles t = listNeedles (commands (t .xs) (t .ys) (t .kinds))
+
+abbrev pub needlesBack : RoundTrip → List Needle
+needlesBack t = toldNeedles (readCounts (t .r)) (t .ps′) (t .rs′) (t .bs′)
+
+-- neither call refuses, and the sewing that comes back is the list's, in the formats that keep jumps; in VP3 the needle places are
 pub record Sewn (t : RoundTrip) : Type 0 where
   pub written : writeNumber (t .w) ≡ 0
   pub read : readNumber (t .r) ≡ 0
-  pub same : back t ≡ sewing t
+  pub same : KeepsJumps (t .format) → back t ≡ sewing t
+  pub needled : t .format ≡ Vp3 → needlesBack t ≡ needles t
 
 -- ---- counts and cells: two cells a point, blockCells a block
 
@@ -185,19 +194,25 @@ module _ (t : RoundTrip) where
   unfolding filled blocksTold
   blocks-are = reading .blocks-are ∙ rw (read-accepts, t .named)
 
-  told : back t ≡ fileSewing P R B
-  unfolding toldSewing readCounts countsOf
-  told = rw (is-read, places-are, runs-are, blocks-are)
+  -- what the buffers tell, of the sewing as of the needle places
+  told : {A : Type 0} (add : Adding A) → ofBuffers add (readCounts (t .r)) (t .ps′) (t .rs′) (t .bs′) ≡ ofBlocks add P R B
+  unfolding ofBuffers readCounts countsOf
+  told add = rw (is-read, places-are, runs-are, blocks-are)
       (rw (front P (t .ps) _ (points-cells (t .format) file), front R (t .rs) _ refl, front B (t .bs) _ (blocks-cells (t .format) file)))
 
   pub sewn : Sewn t
-  unfolding writeNumber readNumber
+  unfolding writeNumber readNumber toldSewing fileSewing toldNeedles fileNeedles
   sewn = record {
     written = rw is-written;
     read = rw is-read;
-    same = told ∙ kept (t .format) (t .name) (t .xs) (t .ys) (t .kinds) (t .threads) (t .accepted) .sews-same;
+    same = λ j. told entry ∙ kept (t .format) (t .name) (t .xs) (t .ys) (t .kinds) (t .threads) (t .accepted) .sews-same j;
+    needled = λ e. told needle ∙ rw e (kept-needles (t .name) (t .xs) (t .ys) (t .kinds) (t .threads) (rw (← e) (t .accepted)));
   }
 
 -- two lists, in one format or two
-pub same-back : (t u : RoundTrip) → (back t ≡ back u) ↔ (sewing t ≡ sewing u)
-same-back t u = alike (sewn t .same) (sewn u .same)
+pub same-back : (t u : RoundTrip) → KeepsJumps (t .format) → KeepsJumps (u .format) → (back t ≡ back u) ↔ (sewing t ≡ sewing u)
+same-back t u j k = alike (sewn t .same j) (sewn u .same k)
+
+-- two lists in VP3
+pub same-needles-back : (t u : RoundTrip) → t .format ≡ Vp3 → u .format ≡ Vp3 → (needlesBack t ≡ needlesBack u) ↔ (needles t ≡ needles u)
+same-needles-back t u e f = alike (sewn t .needled e) (sewn u .needled f)

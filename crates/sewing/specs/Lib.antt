@@ -6,6 +6,8 @@ pub mod DstSewing
 pub mod PecSewing
 pub mod PecFiles
 pub mod PairSewing
+pub mod Vp3Files
+pub mod Vp3Needles
 pub mod Theorem
 pub mod Calls
 pub mod Sizes

@@ -4,7 +4,7 @@
 use mathlib.Core.Path.{_≡_, refl, sym, _∙_, ap}
 use mathlib.Core.Bool.{Bool}
 use mathlib.Core.List.{List, [], _∷_}
-use Prim.Native.Nat.{ℕ, _/_, _≤_, _<_, min}
+use Prim.Native.Nat.{ℕ, _/_, _≤_, min}
 use native.Mathlib.Omega.{arith}
 use lib.IntN.{ℤ, pos}
 use lib.ListN.{length, length-append}
@@ -21,7 +21,7 @@ use Rattle.rules.specs.declared.Cmd.{Cmd}
 use Rattle.rules.specs.declared.Extension.{Extension}
 use Rattle.rules.specs.declared.Extension.the-variants.{Of, Unknown}
 use Rattle.rules.specs.declared.Format.{Format}
-use Rattle.rules.specs.declared.Format.the-variants.{Pes, Pec, Dst, Exp, Jef}
+use Rattle.rules.specs.declared.Format.the-variants.{Pes, Pec, Dst, Exp, Jef, Vp3}
 use Rattle.rules.specs.declared.Refusal.{Refusal}
 use Rattle.rules.specs.declared.Refusal.the-variants.{BufferTooShort}
 use Rattle.rules.specs.declared.Verdict.{Verdict}
@@ -30,6 +30,7 @@ use Rattle.rules.specs.declared.WriteAnswer.{WriteAnswer}
 use Rattle.rules.specs.declared.WriteAnswer.the-variants.{Unwritten}
 use Rattle.laws.specs.Lengths.{length-stitches, length-middle, part-length, pec-length, pes-length}
 use Rattle.laws.specs.Listing.{count-le, length-commands}
+use Rattle.laws.specs.Vp3Lengths.{most-vp3}
 use Rattle.laws.specs.Tests.{by-test}
 use Rattle.laws.specs.Threads.{length-threads}
 use Rattle.laws.specs.Verdicts.{verdict-stop}
@@ -76,6 +77,7 @@ module _ (name : List ℕ) (cs : List Cmd) (threads : List ℕ) (n : Few cs thre
     table-length (threadsOf threads),
     written-length jefCmd jef-four-bytes (pos 0) (pos 0) cs,
   )
+  bounded-file Vp3 = most-vp3 cs (threadsOf threads) (n .changes-few)
 
 -- fewer commands and threads have no greater bound
 grows : (f : Format) (n n′ t t′ : ℕ) → n ≤ n′ → t ≤ t′ → boundOf f n t ≤ boundOf f n′ t′
@@ -85,6 +87,7 @@ grows Pec n n′ t t′ h k = omega arith
 grows Dst n n′ t t′ h k = omega arith
 grows Exp n n′ t t′ h k = omega arith
 grows Jef n n′ t t′ h k = omega arith
+grows Vp3 n n′ t t′ h k = omega arith
 
 -- ---- the claim
 
@@ -102,14 +105,18 @@ bounded f name xs ys kinds threads e =
 
 -- ---- no 11
 
--- a first refusal is one of those asked: none of them has a number from 11 up
+-- a refusal other than 11
+abbrev pub Other : Refusal → Type 0
+Other r = numberOf r ≡ 11 → ⊥
+
+-- a first refusal is one of those asked: none of them is 11
 abbrev pub Below : List (Refusal × Bool) → Type 0
 Below [] = Unit {0}
-Below (c ∷ cs) = (numberOf (c .0) < 11) × Below cs
+Below (c ∷ cs) = Other (c .0) × Below cs
 
 abbrev pub Small : Verdict → Type 0
 Small Accepted = Unit {0}
-Small (Refused r) = numberOf r < 11
+Small (Refused r) = Other r
 
 small : (cs : List (Refusal × Bool)) → Below cs → Small (verdict cs)
 unfolding verdict
@@ -125,7 +132,7 @@ module _ (f : Format) (name : List ℕ) (xs ys : List ℤ) (kinds threads : List
 
   below : Below (listRefusals f xs ys kinds threads)
   unfolding listRefusals numberOf
-  below = (omega arith, (omega arith, (omega arith, (omega arith, (omega arith, tt)))))
+  below = (λ e. omega arith, (λ e. omega arith, (λ e. omega arith, (λ e. omega arith, (λ e. omega arith, tt)))))
 
   known-small : Small (writeVerdict (Of f) name xs ys kinds threads n)
   unfolding listVerdict
@@ -134,13 +141,13 @@ module _ (f : Format) (name : List ℕ) (xs ys : List ℤ) (kinds threads : List
 any-small : (e : Extension) (name : List ℕ) (xs ys : List ℤ) (kinds threads : List ℕ) (n : ℕ) → boundTold e (length kinds) (length threads / 3) ≤ n
     → Small (writeVerdict e name xs ys kinds threads n)
 unfolding writeVerdict verdict numberOf
-any-small Unknown name xs ys kinds threads n room = omega arith
+any-small Unknown name xs ys kinds threads n room = λ e. omega arith
 any-small (Of f) name xs ys kinds threads n room = known-small f name xs ys kinds threads n room
 
 not-eleven : (v : Verdict) (len : ℕ) → Small v → writeAnswer v len ≡ Unwritten BufferTooShort → ⊥
 unfolding writeAnswer numberOf writeNumber
 not-eleven Accepted len s e = let z : _≡_ {A = ℕ} 0 1 = cc in omega arith
-not-eleven (Refused r) len s e = let z : numberOf r ≡ 11 = ap writeNumber e in omega (arith, s, z)
+not-eleven (Refused r) len s e = s (ap writeNumber e)
 
 -- `write` into a buffer that is at least as long as `write_bound` answers is never refused by 11
 pub never-short : (e : Extension) (name : List ℕ) (xs ys : List ℤ) (kinds threads d d′ : List ℕ) (w : WriteAnswer) → Wrote e name xs ys kinds threads d d′ w

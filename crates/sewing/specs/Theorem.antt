@@ -4,6 +4,7 @@
 -- nothing.
 use mathlib.Core.Path.{_≡_, sym, _∙_}
 use mathlib.Core.Logic.{_↔_}
+use mathlib.Core.Bool.{false}
 use mathlib.Core.List.{List}
 use Prim.Native.Nat.{ℕ, _/_, _≤_}
 use native.Mathlib.Omega.{arith}
@@ -12,23 +13,25 @@ use lib.IntN.{ℤ, pos}
 use lib.Dec.{ltb}
 use lib.ListN.{length}
 use Rattle.rules.specs.Vocabulary.{count}
-use Rattle.rules.specs.Lists.{commands}
-use Rattle.rules.specs.Refusals.{changes, tooMany, verdict, listVerdict, stepIn}
+use Rattle.rules.specs.Lists.{commands, threadsOf}
+use Rattle.rules.specs.Refusals.{changes, placeOutside, tooMany, verdict, listVerdict, stepIn}
 use Rattle.rules.specs.Files.{fileOf, eventsOf, colourOf, placesOf, runsOf, blocksOf, fileRefusals, noRoom, fileVerdict, readVerdict}
-use Rattle.rules.specs.Sewing.{Entry, listSewing, fileSewing}
+use Rattle.rules.specs.Promises.{KeepsJumps}
+use Rattle.rules.specs.Sewing.{Entry, listSewing, fileSewing, Needle, listNeedles, fileNeedles}
 use Rattle.rules.specs.declared.Cmd.{Cmd}
 use Rattle.rules.specs.declared.Extension.the-variants.{Of}
 use Rattle.rules.specs.declared.Format.{Format}
-use Rattle.rules.specs.declared.Format.the-variants.{Pes, Pec, Dst, Exp, Jef}
+use Rattle.rules.specs.declared.Format.the-variants.{Pes, Pec, Dst, Exp, Jef, Vp3}
 use Rattle.rules.specs.declared.Verdict.the-variants.{Accepted}
 use Rattle.laws.specs.Threads.{length-threads}
 use Rattle.laws.specs.Tests.{or-no-left, or-no-right}
 use Rattle.laws.specs.Listing.{length-commands}
 use Rattle.laws.specs.Verdicts.{verdict-on}
-use Rattle.sewing.specs.EventSewing.{eventSewing, answer-sewing}
+use Rattle.sewing.specs.EventSewing.{eventSewing, answer-sewing, answer-needles}
 use Rattle.sewing.specs.Accepting.{Taken, taken, Good, shape-of, accepted-good}
 use Rattle.sewing.specs.DstSewing.{dst-sewing, dst-taken}
 use Rattle.sewing.specs.PairSewing.{exp-sewing, exp-taken, jef-sewing, jef-taken}
+use Rattle.sewing.specs.Vp3Needles.{eventNeedles, vp3-needles, vp3-taken}
 use Rattle.sewing.specs.PecFiles.{Few, pec-sewing, pec-taken, pes-sewing, pes-taken}
 
 -- the sewing of what a read of the file answers, under its own format
@@ -52,27 +55,31 @@ few f xs ys kinds threads t =
 
 -- ---- by format
 
-events-sew : (f : Format) (name : List ℕ) (cs : List Cmd) (threads : List ℕ) → Few cs threads → Good (stepIn f) (pos 0) (pos 0) cs
+events-sew : (f : Format) → KeepsJumps f → (name : List ℕ) (cs : List Cmd) (threads : List ℕ) → Few cs threads → Good (stepIn f) (pos 0) (pos 0) cs
     → eventSewing 0 (pos 0) (pos 0) (eventsOf f (fileOf f name cs threads)) ≡ listSewing cs
-events-sew Pes name cs threads n g = pes-sewing name cs threads (n .commands-few) (n .threads-few) g
-events-sew Pec name cs threads n g = pec-sewing name cs threads (n .threads-few) g
-events-sew Dst name cs threads n g = dst-sewing name cs threads g
-events-sew Exp name cs threads n g = exp-sewing name cs threads g
-events-sew Jef name cs threads n g = jef-sewing name cs threads (n .threads-few) g
+events-sew Pes j name cs threads n g = pes-sewing name cs threads (n .commands-few) (n .threads-few) g
+events-sew Pec j name cs threads n g = pec-sewing name cs threads (n .threads-few) g
+events-sew Dst j name cs threads n g = dst-sewing name cs threads g
+events-sew Exp j name cs threads n g = exp-sewing name cs threads g
+events-sew Jef j name cs threads n g = jef-sewing name cs threads (n .threads-few) g
+events-sew Vp3 j name cs threads n g = absurd j
 
-not-refused : (f : Format) (name : List ℕ) (cs : List Cmd) (threads : List ℕ) → Few cs threads → fileVerdict (Of f) (fileOf f name cs threads) ≡ Accepted
-not-refused Pes name cs threads n = pes-taken name cs threads n
-not-refused Pec name cs threads n = pec-taken name cs threads n
-not-refused Dst name cs threads n = dst-taken name cs threads (n .commands-few)
-not-refused Exp name cs threads n = exp-taken name cs threads (n .commands-few)
-not-refused Jef name cs threads n = jef-taken name cs threads (n .commands-few) (n .threads-few)
+not-refused : (f : Format) (name : List ℕ) (cs : List Cmd) (threads : List ℕ) → Few cs threads → placeOutside cs ≡ false
+    → fileVerdict (Of f) (fileOf f name cs threads) ≡ Accepted
+unfolding fileVerdict fileRefusals fileOf
+not-refused Pes name cs threads n p = pes-taken name cs threads n
+not-refused Pec name cs threads n p = pec-taken name cs threads n
+not-refused Dst name cs threads n p = dst-taken name cs threads (n .commands-few)
+not-refused Exp name cs threads n p = exp-taken name cs threads (n .commands-few)
+not-refused Jef name cs threads n p = jef-taken name cs threads (n .commands-few) (n .threads-few)
+not-refused Vp3 name cs threads n p = vp3-taken cs (threadsOf threads) p (n .changes-few) (n .commands-few)
 
 -- ---- the claim
 
--- the file is not refused, and what is read of it sews what the list sews
+-- the file is not refused, and what is read of it sews what the list sews, in the formats that keep jumps
 pub record Kept (f : Format) (name : List ℕ) (xs ys : List ℤ) (kinds threads : List ℕ) : Type 0 where
   pub taken-back : fileVerdict (Of f) (fileOf f name (commands xs ys kinds) threads) ≡ Accepted
-  pub sews-same : readSewing f (fileOf f name (commands xs ys kinds) threads) ≡ listSewing (commands xs ys kinds)
+  pub sews-same : KeepsJumps f → readSewing f (fileOf f name (commands xs ys kinds) threads) ≡ listSewing (commands xs ys kinds)
 
 pub kept : (f : Format) (name : List ℕ) (xs ys : List ℤ) (kinds threads : List ℕ) → listVerdict f xs ys kinds threads ≡ Accepted → Kept f name xs ys kinds threads
 unfolding placesOf runsOf blocksOf
@@ -82,8 +89,8 @@ kept f name xs ys kinds threads e =
     let cs = commands xs ys kinds in
     let s = fileOf f name cs threads in
     record {
-      taken-back = not-refused f name cs threads n;
-      sews-same = answer-sewing (colourOf f s) (eventsOf f s) ∙ events-sew f name cs threads n (accepted-good f xs ys kinds threads t);
+      taken-back = not-refused f name cs threads n (t .place);
+      sews-same = λ j. answer-sewing (colourOf f s) (eventsOf f s) ∙ events-sew f j name cs threads n (accepted-good f xs ys kinds threads t);
     }
 
 -- two things, each equal to another, are equal exactly when the others are
@@ -91,12 +98,37 @@ pub alike : {A : Type 0} {a b c d : A} → a ≡ b → c ≡ d → (a ≡ c) ↔
 alike p q = (λ e. sym p ∙ e ∙ q, λ e. p ∙ e ∙ sym q)
 
 -- two lists, each accepted for its own format, read back as equal sewings exactly when they sew the same
-pub same-sewing : (f g : Format) (name name′ : List ℕ) (xs ys xs′ ys′ : List ℤ) (kinds threads kinds′ threads′ : List ℕ)
+pub same-sewing : (f g : Format) → KeepsJumps f → KeepsJumps g → (name name′ : List ℕ) (xs ys xs′ ys′ : List ℤ) (kinds threads kinds′ threads′ : List ℕ)
     → listVerdict f xs ys kinds threads ≡ Accepted → listVerdict g xs′ ys′ kinds′ threads′ ≡ Accepted
     → (readSewing f (fileOf f name (commands xs ys kinds) threads) ≡ readSewing g (fileOf g name′ (commands xs′ ys′ kinds′) threads′))
     ↔ (listSewing (commands xs ys kinds) ≡ listSewing (commands xs′ ys′ kinds′))
-same-sewing f g name name′ xs ys xs′ ys′ kinds threads kinds′ threads′ e e′ =
-    alike (kept f name xs ys kinds threads e .sews-same) (kept g name′ xs′ ys′ kinds′ threads′ e′ .sews-same)
+same-sewing f g j j′ name name′ xs ys xs′ ys′ kinds threads kinds′ threads′ e e′ =
+    alike (kept f name xs ys kinds threads e .sews-same j) (kept g name′ xs′ ys′ kinds′ threads′ e′ .sews-same j′)
+
+-- ---- VP3
+
+-- the needle places of what a read of the file answers
+abbrev pub readNeedles : List ℕ → List Needle
+readNeedles s = fileNeedles (placesOf Vp3 s) (runsOf Vp3 s) (blocksOf Vp3 s)
+
+-- they are the list's stitches, with their places and block numbers
+pub kept-needles : (name : List ℕ) (xs ys : List ℤ) (kinds threads : List ℕ) → listVerdict Vp3 xs ys kinds threads ≡ Accepted
+    → readNeedles (fileOf Vp3 name (commands xs ys kinds) threads) ≡ listNeedles (commands xs ys kinds)
+unfolding placesOf runsOf blocksOf eventsOf fileOf eventNeedles
+kept-needles name xs ys kinds threads e =
+    let t = taken Vp3 xs ys kinds threads e in
+    let n = few Vp3 xs ys kinds threads t in
+    let cs = commands xs ys kinds in
+    let s = fileOf Vp3 name cs threads in
+    answer-needles (colourOf Vp3 s) (eventsOf Vp3 s) ∙ vp3-needles cs (threadsOf threads) (t .place) (n .changes-few) (n .commands-few)
+
+-- so of two accepted lists the needle places agree exactly when the stitches do
+pub same-needles : (name name′ : List ℕ) (xs ys xs′ ys′ : List ℤ) (kinds threads kinds′ threads′ : List ℕ)
+    → listVerdict Vp3 xs ys kinds threads ≡ Accepted → listVerdict Vp3 xs′ ys′ kinds′ threads′ ≡ Accepted
+    → (readNeedles (fileOf Vp3 name (commands xs ys kinds) threads) ≡ readNeedles (fileOf Vp3 name′ (commands xs′ ys′ kinds′) threads′))
+    ↔ (listNeedles (commands xs ys kinds) ≡ listNeedles (commands xs′ ys′ kinds′))
+same-needles name name′ xs ys xs′ ys′ kinds threads kinds′ threads′ e e′ =
+    alike (kept-needles name xs ys kinds threads e) (kept-needles name′ xs′ ys′ kinds′ threads′ e′)
 
 -- ---- with buffers that hold the answer, the read is not refused either
 

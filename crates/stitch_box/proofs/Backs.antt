@@ -13,6 +13,7 @@ use Rattle.rules.specs.declared.Counts.{Counts}
 use Rattle.rules.specs.declared.Extension.{Extension}
 use Rattle.rules.specs.declared.Extension.the-variants.{Of}
 use Rattle.rules.specs.declared.Format.{Format}
+use Rattle.rules.specs.declared.Format.the-variants.{Vp3}
 use Rattle.rules.specs.declared.ReadAnswer.{ReadAnswer}
 use Rattle.rules.specs.declared.ReadAnswer.the-variants.{Read, Unread}
 use Rattle.rules.specs.declared.Refusal.{Refusal}
@@ -148,7 +149,8 @@ module _ {e : Extension} {name : List ℕ} {xs ys : List ℤ} {kinds threads d d
         blocks-are = read-too .blocks-are ∙ rw (accepted .0);
         keeps = record {
           unrefused = λ f n a m. as-read ∙ sewn (trip f n a m) .read;
-          sewn = λ f n a m. rw as-counted (sewn (trip f n a m) .same);
+          sewn = λ f j n a m. rw as-counted (sewn (trip f n a m) .same j);
+          needled = λ n a m. rw as-counted (sewn (trip Vp3 n a m) .needled refl);
         };
       }
 
@@ -168,6 +170,7 @@ module _ {e : Extension} {name : List ℕ} {xs ys : List ℤ} {kinds threads d d
       blocks-are = rw refused;
       keeps = record {
         unrefused = λ f n a m. absurd (never-both (sym refused ∙ write-accepts f e name xs ys kinds threads (length d) n a (m .bytes)));
-        sewn = λ f n a m. absurd (never-both (sym refused ∙ write-accepts f e name xs ys kinds threads (length d) n a (m .bytes)));
+        sewn = λ f j n a m. absurd (never-both (sym refused ∙ write-accepts f e name xs ys kinds threads (length d) n a (m .bytes)));
+        needled = λ n a m. absurd (never-both (sym refused ∙ write-accepts Vp3 e name xs ys kinds threads (length d) n a (m .bytes)));
       };
     }

@@ -1,3 +1,4 @@
 pub mod Back
 pub mod Two
+pub mod Vp3Rooms
 pub mod Rooms

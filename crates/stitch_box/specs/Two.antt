@@ -1,18 +1,19 @@
 -- Two lists, each written and read back by `write_and_read`, in one format or two: equal sewings come back exactly when the lists sew the
 -- same.
 -- Assumes nothing.
-use mathlib.Core.Path.{_≡_}
+use mathlib.Core.Path.{_≡_, ap, _∙_}
 use mathlib.Core.Logic.{_↔_}
 use mathlib.Core.List.{List}
 use Prim.Native.Nat.{ℕ}
 use lib.IntN.{ℤ}
 use Rattle.rules.specs.Files.{fileOf}
 use Rattle.rules.specs.Lists.{commands}
-use Rattle.rules.specs.Promises.{Room, WroteAndRead, roundTripCounts}
+use Rattle.rules.specs.Promises.{Room, KeepsJumps, WroteAndRead, roundTripCounts}
 use Rattle.rules.specs.Refusals.{extensionOf, listVerdict}
-use Rattle.rules.specs.Sewing.{Entry, listSewing, toldSewing}
+use Rattle.rules.specs.Sewing.{Entry, listSewing, toldSewing, Needle, listNeedles, toldNeedles}
 use Rattle.rules.specs.declared.Extension.the-variants.{Of}
 use Rattle.rules.specs.declared.Format.{Format}
+use Rattle.rules.specs.declared.Format.the-variants.{Vp3}
 use Rattle.rules.specs.declared.RoundTripAnswer.{RoundTripAnswer}
 use Rattle.rules.specs.declared.Verdict.the-variants.{Accepted}
 use Rattle.sewing.specs.Theorem.{alike}
@@ -48,8 +49,22 @@ sewing t = listSewing (commands (t .xs) (t .ys) (t .kinds))
 abbrev pub back : Call → List Entry
 back t = toldSewing (roundTripCounts (t .a)) (t .ps′) (t .rs′) (t .bs′)
 
-pub own : (t : Call) → back t ≡ sewing t
-own t = t .promised .keeps .sewn (t .format) (t .named) (t .accepted) (t .room)
+pub own : (t : Call) → KeepsJumps (t .format) → back t ≡ sewing t
+own t j = t .promised .keeps .sewn (t .format) j (t .named) (t .accepted) (t .room)
 
-pub same-kept : (t u : Call) → (back t ≡ back u) ↔ (sewing t ≡ sewing u)
-same-kept t u = alike (own t) (own u)
+pub same-kept : (t u : Call) → KeepsJumps (t .format) → KeepsJumps (u .format) → (back t ≡ back u) ↔ (sewing t ≡ sewing u)
+same-kept t u j k = alike (own t j) (own u k)
+
+-- ---- two lists in VP3: equal needle places come back exactly when the lists have the same stitches at the same places in the same blocks
+
+abbrev pub needles : Call → List Needle
+needles t = listNeedles (commands (t .xs) (t .ys) (t .kinds))
+
+abbrev pub needlesBack : Call → List Needle
+needlesBack t = toldNeedles (roundTripCounts (t .a)) (t .ps′) (t .rs′) (t .bs′)
+
+pub own-needles : (t : Call) → t .format ≡ Vp3 → needlesBack t ≡ needles t
+own-needles t e = t .promised .keeps .needled (t .named ∙ ap Of e) (rw e at (t .accepted)) (rw e at (t .room))
+
+pub same-needles : (t u : Call) → t .format ≡ Vp3 → u .format ≡ Vp3 → (needlesBack t ≡ needlesBack u) ↔ (needles t ≡ needles u)
+same-needles t u e f = alike (own-needles t e) (own-needles u f)

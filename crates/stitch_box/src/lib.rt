@@ -15,6 +15,7 @@ use rules::ReadAnswer;
 use rules::Refusal;
 use rules::RoundTripAnswer;
 use rules::WriteAnswer;
+use vp3::write_vp3;
 ghost use mathlib.Core.Path.{_≡_};
 ghost use Prim.Native.Nat.{_≤_, min};
 ghost use Rattle.rules.specs.Files.{labelTold};
@@ -41,6 +42,7 @@ pub fn write_stitch_file(
         Format::Jef => write_jef(xs, ys, kinds, threads, out),
         Format::Pec => write_pec_file(name, xs, ys, kinds, threads, out),
         Format::Pes => pes_from_stream(name, xs, ys, kinds, threads, out),
+        Format::Vp3 => write_vp3(xs, ys, kinds, threads, out),
     }
 }
 
@@ -84,6 +86,7 @@ fn bound_of(f: Format, n: usize, t: usize) -> usize
         Format::Dst => DST_HEADER + 9 * n,
         Format::Exp => 4 * n,
         Format::Jef => 124 + 4 * n + 8 * t,
+        Format::Vp3 => 283 + 8 * n + 57 * at_most(n, MOST_CHANGES),
     }
 }
 

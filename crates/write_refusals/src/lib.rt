@@ -25,7 +25,7 @@ pub fn number(r: Refusal) -> u32
     match r {
         Refusal::UnknownExtension => 1,
         Refusal::FileTooLong => 2,
-        Refusal::NotPes => 3,
+        Refusal::BadOpening => 3,
         Refusal::FileTooShort => 4,
         Refusal::StartBelowZero => 5,
         Refusal::BadList => 6,
@@ -34,6 +34,7 @@ pub fn number(r: Refusal) -> u32
         Refusal::Moved => 9,
         Refusal::StepTooLong => 10,
         Refusal::BufferTooShort => 11,
+        Refusal::OutOfRange => 12,
     }
 }
 
@@ -202,6 +203,7 @@ fn least_step(f: Format) -> i32
         Format::Pes | Format::Pec => -2048,
         Format::Dst => -121,
         Format::Exp | Format::Jef => -127,
+        Format::Vp3 => -32000,
     }
 }
 
@@ -212,6 +214,7 @@ fn greatest_step(f: Format) -> i32
         Format::Pes | Format::Pec => 2047,
         Format::Dst => 121,
         Format::Exp | Format::Jef => 127,
+        Format::Vp3 => 32000,
     }
 }
 

@@ -22,6 +22,6 @@ pub struct Design {
     pub name: String,
     pub blocks: Vec<Block>,
     pub stitch_shapes: Vec<Vec<Vec<(usize, usize)>>>,
-    /// Ours: what `exp_jef_writers::commands` takes away and gives back.
+    /// Ours: what `more_writers::commands` takes away and gives back.
     pub ready: RefCell<Vec<Cmd>>,
 }

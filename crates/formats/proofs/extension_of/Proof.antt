@@ -34,6 +34,10 @@ without5 : (c : tie.Else5) → Without 5 (now (c .before .before .before .before
 unfolding extensionOf namedIn
 without5 c = rw (without4 (c .before .before), ← c .before .is-named5 .ensures, c .if5 .left)
 
+without6 : (c : tie.Else6) → Without 6 (now (c .before .before .before .before .before .before .before .before .before .before .before .before .before .args .ext))
+unfolding extensionOf namedIn
+without6 c = rw (without5 (c .before .before), ← c .before .is-named6 .ensures, c .if6 .left)
+
 pub extension-of-spec : {M : Type 1} → statement M
 unfolding extensionOf namedIn
 extension-of-spec =
@@ -44,4 +48,5 @@ extension-of-spec =
     (λ c κs. search needs) (λ c. rw (without2 (c .before .before), ← c .before .is-named3 .ensures, c .if3 .taken))
     (λ c κs. search needs) (λ c. rw (without3 (c .before .before), ← c .before .is-named4 .ensures, c .if4 .taken))
     (λ c κs. search needs) (λ c. rw (without4 (c .before .before), ← c .before .is-named5 .ensures, c .if5 .taken))
-    (λ c. rw (without5 c)))
+    (λ c κs. search needs) (λ c. rw (without5 (c .before .before), ← c .before .is-named6 .ensures, c .if6 .taken))
+    (λ c. rw (without6 c)))

@@ -1,6 +1,6 @@
 -- The colours of the header, and the records behind it.
 use native.Mathlib.Omega.{arith}
-use Rattle.rules.specs.declared.Format.the-variants.{Dst}
+use Rattle.read_records.specs.declared.Row.the-variants.{Dst}
 use Rattle.read.proofs.Colours.{cells-inside, cells-long, stored-answer}
 use borrow.Author.Needs.{needs}
 use Rattle.read.proofs.read_dst.Statement.{statement}

@@ -2,7 +2,7 @@
 use mathlib.Core.Path.{refl}
 use borrow.Author.Tests.{le-ltb}
 use native.Mathlib.Omega.{arith}
-use Rattle.rules.specs.declared.Format.the-variants.{Exp}
+use Rattle.read_records.specs.declared.Row.the-variants.{Exp}
 use Rattle.read_builder.specs.Colour.{colourIn}
 use Rattle.read.proofs.Colours.{answered-as}
 use borrow.Author.Needs.{needs}

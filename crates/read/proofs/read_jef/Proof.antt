@@ -5,7 +5,7 @@ use denote.Ref.{now}
 use mir.Facts.{toZ-ofZ}
 use lib.ListN.{length}
 use Rattle.read.proofs.Stitches.{jef-shorter}
-use Rattle.rules.specs.declared.Format.the-variants.{Jef}
+use Rattle.read_records.specs.declared.Row.the-variants.{Jef}
 use Rattle.read.proofs.Colours.{cells-inside, cells-long, stored-answer}
 use borrow.Author.Needs.{needs}
 use Rattle.read.proofs.read_jef.Statement.{statement}

@@ -17,6 +17,10 @@ read-jef-requires c κs =
     let r = ret w32 (c .before .before .before .before .head2 .given .0 .0) (c .before .before .before .known-told2 .given .0 .1) in
     (o .short, o .told ∙ sym r)
 
+read-vp3-requires : tie.Need-read-vp3-requires
+read-vp3-requires c κs =
+    rw (c .before .before .before .before .head3 .given .1) at (c .before .before .before .before .before .before .before .before .before .pre)
+
 pub read-part-spec : {M : Type 1} → statement M
 read-part-spec =
     tie.close
@@ -25,7 +29,7 @@ read-part-spec =
     (λ c κs. c .before .before .before .before .before .before .before .before .pre .short)
     (λ c. search needs) (λ c κs. c .before .before .before .before .before .before .before .before .pre .short) (λ c. search needs)
     read-jef-requires
-    (λ c. search needs) (λ c. search needs) (λ c. search needs)
+    (λ c. search needs) read-vp3-requires (λ c. search needs) (λ c. search needs) (λ c. search needs)
     (λ c. let at = c .before .before .before .before .before in
     rw (at .before .before .before .before .before .head .given .1) (at .read-pec .ensures))
     (λ c. search needs) (λ c. search needs) (λ c. search needs)
@@ -36,4 +40,7 @@ read-part-spec =
     rw (at .before .before .before .before .enum-told2 .given .1) (at .read-exp .ensures))
     (λ c. search needs) (λ c. search needs) (λ c. search needs)
     (λ c. let at = c .before .before .before .before .before in
-    rw (at .before .before .before .before .before .head2 .given .1) (at .read-jef .ensures)))
+    rw (at .before .before .before .before .before .head2 .given .1) (at .read-jef .ensures))
+    (λ c. search needs) (λ c. search needs) (λ c. search needs)
+    (λ c. let at = c .before .before .before .before .before in
+    rw (at .before .before .before .before .before .head3 .given .1) (at .read-vp3 .ensures)))

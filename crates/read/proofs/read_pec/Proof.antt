@@ -1,6 +1,6 @@
 -- The colours of the part, and the records behind its header.
 use native.Mathlib.Omega.{arith}
-use Rattle.rules.specs.declared.Format.the-variants.{Pec}
+use Rattle.read_records.specs.declared.Row.the-variants.{Pec}
 use Rattle.read.proofs.Colours.{cells-inside, cells-long, stored-answer}
 use borrow.Author.Needs.{needs}
 use Rattle.read.proofs.read_pec.Statement.{statement}

@@ -2,14 +2,14 @@
 use Prim.Native.Nat.{_-_}
 use native.Mathlib.Omega.{arith}
 use lib.ListN.{length}
-use Rattle.read_count.specs.Tallies.{Tallying, pairFormat}
+use Rattle.read_count.specs.Tallies.{Tallying, pairRow}
 use mathlib.Core.Path.{sym}
 use Rattle.read_count.proofs.Laws.{tallying-start}
 use Rattle.read_count.proofs.pairs.count_pairs.Statement.{statement}
 use Rattle.read_count.proofs.pairs.count_pairs.Tie as tie
 
 abbrev Inv-loop : tie.InvT-loop
-Inv-loop jef bytes table t₀ at₀ end t at = Tallying (pairFormat jef) bytes t at
+Inv-loop jef bytes table t₀ at₀ end t at = Tallying (pairRow jef) bytes t at
 
 abbrev μ-loop : tie.MeasureT-loop
 μ-loop jef bytes table t₀ at₀ end t at = length bytes - at
@@ -32,5 +32,5 @@ count-pairs-spec =
     Inv-loop μ-loop (λ c κs. tt) (λ c κs. tt) (λ c κs. omega arith)
     (λ c. rw (c .before .none .ensures) (tallying-start (c .before .before .before .before .pre)))
     (λ c. sym (c .before .before .before .before .before .kinds .ensures .long)) pass-pair-requires loop-less
-    (λ c. c .before .pass-pair .ensures .0) (λ c κs. tt) (λ c κs. rw (c .format-of .ensures) (c .before .before .loop .inv))
-    (λ c. rw (c .before .format-of .ensures) at (c .count-rest .ensures)))
+    (λ c. c .before .pass-pair .ensures .0) (λ c κs. tt) (λ c κs. rw (c .row-of .ensures) (c .before .before .loop .inv))
+    (λ c. rw (c .before .row-of .ensures) at (c .count-rest .ensures)))

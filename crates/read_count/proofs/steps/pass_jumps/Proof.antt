@@ -4,7 +4,7 @@ use Prim.Native.Nat.{_+_, _-_, _/_, _%_, _≤_}
 use native.Mathlib.Omega.{arith}
 use denote.Ref.{now}
 use lib.ListN.{length}
-use Rattle.rules.specs.declared.Format.the-variants.{Pec}
+use Rattle.read_records.specs.declared.Row.the-variants.{Pec}
 use Rattle.read_passes.proofs.Found.{Word, hops-low}
 use Rattle.read_count.specs.Tallies.{Jumps, none, more}
 use Rattle.read_count.proofs.steps.pass_jumps.Statement.{statement}

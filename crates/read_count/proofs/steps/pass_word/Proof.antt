@@ -5,7 +5,7 @@ use mathlib.Core.Bool.{true, false}
 use denote.Ref.{now}
 use lib.ListN.{drop}
 use native.Mathlib.Omega.{arith}
-use Rattle.rules.specs.declared.Format.the-variants.{Pec}
+use Rattle.read_records.specs.declared.Row.the-variants.{Pec}
 use Rattle.rules.specs.declared.Record.the-variants.{StitchBy, JumpBy}
 use Rattle.read_records.specs.Firsts.{firstOf}
 use Rattle.read_passes.proofs.Found.{Word, stepped, ends-here, changes-here, steps-here}

@@ -6,7 +6,7 @@ use lib.ListN.{length}
 use Rattle.read_builder.specs.Builders.{origin}
 use Rattle.read_builder.specs.Colour.{colourIn}
 use Rattle.rules.specs.Vocabulary.{pick}
-use Rattle.rules.specs.declared.Format.the-variants.{Exp, Jef}
+use Rattle.read_records.specs.declared.Row.the-variants.{Exp, Jef}
 use Rattle.read_passes.proofs.Loops.{Going, going-start, going-on, going-ended}
 use borrow.Author.Needs.{needs}
 use Rattle.read_fill.proofs.pairs.fill_pairs.Statement.{statement}
@@ -38,13 +38,13 @@ loop-again c =
     going-on (t .before .before .before .before .before .before .loop .inv) (t .turn-pair .ensures .went)
 
 fill-rest-requires : tie.Need-fill-rest-requires Inv-loop μ-loop
-fill-rest-requires c κs = rw (c .before .before .before .format-of .ensures) (c .before .before .before .before .before .loop .inv .ready)
+fill-rest-requires c κs = rw (c .before .before .before .row-of .ensures) (c .before .before .before .before .before .loop .inv .ready)
 
 returns : tie.Need-returns Inv-loop μ-loop
 returns c =
     let r = c .before .before .before .before .before in
     let f = r .before .before .before .before in
-    going-ended (f .before .before .loop .inv) (rw (f .format-of .ensures) at (r .fill-rest .ensures))
+    going-ended (f .before .before .loop .inv) (rw (f .row-of .ensures) at (r .fill-rest .ensures))
 
 pub fill-pairs-spec : {M : Type 1} → statement M
 fill-pairs-spec =

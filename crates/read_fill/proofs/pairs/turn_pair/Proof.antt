@@ -5,7 +5,7 @@ use native.Mathlib.Omega.{arith}
 use denote.Ref.{now}
 use lib.ListN.{drop}
 use Rattle.rules.specs.Vocabulary.{pick}
-use Rattle.rules.specs.declared.Format.the-variants.{Exp, Jef}
+use Rattle.read_records.specs.declared.Row.the-variants.{Exp, Jef}
 use Rattle.rules.specs.declared.Record.the-variants.{StitchBy}
 use Rattle.read_records.specs.Firsts.{firstOf}
 use Rattle.read_passes.proofs.Found.{pair-first, pair-second}

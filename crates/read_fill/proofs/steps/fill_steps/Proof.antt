@@ -5,7 +5,7 @@ use native.Mathlib.Omega.{arith}
 use lib.ListN.{length}
 use Rattle.read_builder.specs.Builders.{origin}
 use Rattle.read_builder.specs.Colour.{colourIn}
-use Rattle.rules.specs.declared.Format.the-variants.{Pec}
+use Rattle.read_records.specs.declared.Row.the-variants.{Pec}
 use Rattle.read_passes.proofs.Loops.{Going, going-start, going-on, going-ended}
 use borrow.Author.Needs.{needs}
 use Rattle.read_fill.proofs.steps.fill_steps.Statement.{statement}

@@ -1,17 +1,17 @@
--- Jump by jump, by `Row`.
+-- Jump by jump, by `HopRow`.
 use Prim.Native.Nat.{_+_, _-_, _≤_}
 use native.Mathlib.Omega.{arith}
 use denote.Ref.{now}
 use lib.ListN.{length}
 use Rattle.read_passes.proofs.Found.{Word, hops-low}
 use Rattle.read_passes.proofs.Turns.{reads}
-use Rattle.read_fill.proofs.Hops.{Row, Leap, leap, row-start, row-small, row-on}
+use Rattle.read_fill.proofs.Hops.{HopRow, Leap, leap, row-start, row-small, row-on}
 use borrow.Author.Needs.{needs}
 use Rattle.read_fill.proofs.steps.hop_row.Statement.{statement}
 use Rattle.read_fill.proofs.steps.hop_row.Tie as tie
 
 abbrev Inv-loop : tie.InvT-loop
-Inv-loop steps bytes from end b₀ at₀ b at = Row bytes b₀ from b at
+Inv-loop steps bytes from end b₀ at₀ b at = HopRow bytes b₀ from b at
 
 abbrev μ-loop : tie.MeasureT-loop
 μ-loop steps bytes from end b₀ at₀ b at = end - at

@@ -7,7 +7,7 @@ use lib.ListN.{drop}
 use mathlib.Core.Bool.{true, false}
 use Rattle.rules.specs.declared.Record.{Record}
 use Rattle.rules.specs.declared.Record.the-variants.{StitchBy, JumpBy}
-use Rattle.rules.specs.declared.Format.the-variants.{Pec}
+use Rattle.read_records.specs.declared.Row.the-variants.{Pec}
 use Rattle.read_records.specs.Firsts.{firstOf}
 use Rattle.read_passes.proofs.Turns.{read, reads}
 use Rattle.read_fill.proofs.Laws.{can-sew, can-hop, can-change, turn-end, turn-sewn, turn-changed, turned-at}

@@ -3,7 +3,7 @@ use mathlib.Core.Path.{_≡_}
 use native.Mathlib.Omega.{arith}
 use denote.Ref.{now}
 use lib.ListN.{drop}
-use Rattle.rules.specs.declared.Format.the-variants.{Dst}
+use Rattle.read_records.specs.declared.Row.the-variants.{Dst}
 use Rattle.rules.specs.declared.Record.the-variants.{JumpBy}
 use Rattle.read_records.specs.Firsts.{firstOf}
 use Rattle.read_passes.proofs.Turns.{reads, read}

@@ -2,7 +2,8 @@
 use mathlib.Core.Path.{_≡_, _∙_}
 use native.Mathlib.Omega.{arith}
 use lib.IntN.{_+ℤ_}
-use Rattle.read_builder.proofs.Places.{kept}
+use mir.Syntax.{w32}
+use Rattle.laws.specs.Ints.{ret}
 use Rattle.read_builder.proofs.Parts.{point-cells, in-run}
 use Rattle.read_passes.proofs.Turns.{two-points, read, summed}
 use borrow.Author.Needs.{needs}
@@ -31,8 +32,8 @@ returns c =
     let t = c .before .before .before .before .before .before .before .before .before .before in
     let k = sums (t .before .before) in
     let s = t .before .before .before .before .before .before in
-    let at-x = kept (s .args .b .x) (s .pre .0 .x) in
-    let at-y = kept (s .args .b .y) (s .pre .0 .y) in
+    let at-x = ret w32 (s .args .b .x) (s .pre .0 .x) in
+    let at-y = ret w32 (s .args .b .y) (s .pre .0 .y) in
     let p = c .before .before .before .before .before .before .put-point .ensures in
     let q = rw (p, k .0, k .1, at-x, at-y) at (c .before .before .put-point2 .ensures) in
     (rw (c .stitch .ensures, k .0, k .1), rw (t .if1 .taken) (q ∙ two-points _ _ _ _ _ _))

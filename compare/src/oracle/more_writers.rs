@@ -1,4 +1,4 @@
-//! The EXP and JEF writers on a list of ours: `more.rs` compiled a second time,
+//! The EXP, JEF and VP3 writers on a list of ours: `more.rs` compiled a second time,
 //! below a `commands` that gives back the list laid ready in the design.
 
 use crate::design::Design;

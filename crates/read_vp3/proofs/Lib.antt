@@ -1,0 +1,4 @@
+pub mod Tallied
+pub mod Filled
+pub mod Walked
+pub mod Blockwise

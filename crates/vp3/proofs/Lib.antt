@@ -1,0 +1,9 @@
+pub mod Numbers
+pub mod Rooms
+pub mod Slices
+pub mod Splits
+pub mod Stitches
+pub mod Listings
+pub mod Texts
+pub mod Layings
+pub mod Files
