@@ -3,6 +3,8 @@ pub mod Rooms
 pub mod Slices
 pub mod Splits
 pub mod Stitches
+pub mod Pairs
+pub mod Turns
 pub mod Listings
 pub mod Texts
 pub mod Layings

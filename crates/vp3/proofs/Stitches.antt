@@ -110,15 +110,6 @@ pub record Turn (px py : ℤ) (c : Cmd) (vs : List ℕ) (x y : ℤ) : Type 0 whe
   pub across : Small x
   pub down : Small y
 
-module _ {xs ys : List ℤ} {i : ℕ} {px py dx dy : ℤ} (ks : List ℕ) (h : Here xs ys i) (d : Moves xs ys i px py dx dy) where
-  pub stitch-turn : getD ks i 0 ≡ 0 → Turn px py (cmdAt xs ys ks i) (stitchOf (read dx) (read dy)) (readAt xs i) (readAt ys i)
-  stitch-turn k = rw (h .read-across, h .read-down, d .across, d .down)
-      record { bytes = λ b. stitch-more px py (cmdAt xs ys ks i) b k; across = h .across; down = h .down }
-
-  pub other-turn : {op : Op} → op ≡ opOf (getD ks i 0) → (getD ks i 0 ≡ 0 → ⊥) → Small px → Small py
-      → Turn px py (cmdAt xs ys ks i) (vp3Cmd op (read dx) (read dy)) px py
-  other-turn e k p q = rw (e, d .across, d .down) record { bytes = λ b. other-more px py (cmdAt xs ys ks i) b k; across = p; down = q }
-
 -- ---- a scan
 
 pub record Scanning (xs ys : List ℤ) (ks : List ℕ) (from : ℕ) (x y : ℤ) (n i : ℕ) (px py : ℤ) (len : ℕ) : Type 0 where

@@ -3,7 +3,7 @@ use Prim.Native.Nat.{ℕ, suc, _+_, _-_, _*_, _≤_}
 use mathlib.Core.Path.{_≡_}
 use mathlib.Core.Bool.{false}
 use mathlib.Core.List.{List, [], _∷_}
-use lib.IntN.{ℤ, pos}
+use lib.IntN.{ℤ, pos, natAbs}
 use lib.ListN.{length, take, drop}
 use Rattle.rules.specs.Vocabulary.{count}
 use Rattle.rules.specs.Lists.{commands}
@@ -55,6 +55,25 @@ pub record Scanned (cs : List Cmd) (from : ℕ) (x y : ℤ) (r : Scan) : Type 0 
   pub end : r .end ≡ from + length (firstOf (colorBlocks (drop from cs)))
   pub len : r .len ≡ length (stitchesFrom x y (firstOf (colorBlocks (drop from cs))))
   pub within : r .end ≤ length cs
+
+-- a place in the range
+abbrev pub Close : ℤ → ℤ → Type 0
+Close x y = (natAbs x ≤ 16000) × (natAbs y ≤ 16000)
+
+-- at most the last command of the list is left, and `len` bytes of its block are counted, the last stitch being at (px, py)
+pub record Left (xs ys : List ℤ) (kinds : List ℕ) (i : ℕ) (px py : ℤ) (len : ℕ) : Type 0 where
+  pub short : length kinds ≤ 65535
+  pub placed : placeOutside (commands xs ys kinds) ≡ false
+  pub inside : i ≤ length (commands xs ys kinds)
+  pub last : length (commands xs ys kinds) ≤ i + 1
+  pub close : Close px py
+  pub little : len ≤ 524280
+
+-- where the block ends, and the bytes of all its stitches
+pub record Rest (xs ys : List ℤ) (kinds : List ℕ) (i : ℕ) (px py : ℤ) (len : ℕ) (r : Scan) : Type 0 where
+  pub end : r .end ≡ i + length (firstOf (colorBlocks (drop i (commands xs ys kinds))))
+  pub len-is : r .len ≡ len + length (stitchesFrom px py (firstOf (colorBlocks (drop i (commands xs ys kinds)))))
+  pub within : r .end ≤ length (commands xs ys kinds)
 
 -- n blocks, with their ends and the bytes of their stitches in two arrays
 pub record Listed (cs : List Cmd) (n : ℕ) (ends lens : List ℕ) : Type 0 where

@@ -8,6 +8,7 @@ use formats::list_len;
 use formats::op_of;
 use rules::Color;
 use vp3_cmd::cmd_len;
+use vp3_cmd::last_stitch;
 use vp3_cmd::put_cmd;
 use vp3_cmd::put_stitch;
 use vp3_cmd::stitch_len;
@@ -20,11 +21,12 @@ ghost use lib.ListN.{length, drop};
 ghost use Rattle.rules.specs.Lists.{commands, threadsOf};
 ghost use Rattle.rules.specs.Refusals.{placeOutside};
 ghost use Rattle.rules.specs.Thumbnails.{colorBlocks};
-ghost use Rattle.rules.specs.Vp3.{orBlack, stitchesFrom, colorParts};
+ghost use lib.Dec.{eqb};
+ghost use Rattle.rules.specs.Vp3.{stitchOf, orBlack, stitchesFrom, colorParts};
 ghost use Rattle.rules.specs.Promises.{was, left};
 ghost use Rattle.laws.specs.Buffers.{Puts};
 ghost use Rattle.vp3.specs.Heads.{Wide, NearWay, blockText};
-ghost use Rattle.vp3.specs.Blocks.{between, endOf, Scanned, Known, Listed, ScannedAll};
+ghost use Rattle.vp3.specs.Blocks.{Close, Left, Rest, between, endOf, Scanned, Known, Listed, ScannedAll};
 
 // The bytes of a block's stitches, and the place behind its last command.
 pub struct Scan {
@@ -46,6 +48,40 @@ fn step(from: i32, to: i32) -> i32
     to - from
 }
 
+// Whether two kinds are both 0, a stitch, by one test.
+fn are_stitches(a: u8, b: u8) -> bool
+    ensures { λ r. ⌜ r ≡ eqb (a + b) 0 ⌝ }
+{
+    (a as u16) + (b as u16) == 0
+}
+
+// The bytes of two stitches, from (x, y) to (nx, ny) and on to (mx, my).
+fn two_len(x: i32, y: i32, nx: i32, ny: i32, mx: i32, my: i32) -> usize
+    requires { ⌜ Close x y × (Close nx ny × Close mx my) ⌝ }
+    ensures { λ r. ⌜ (r ≡ length (stitchOf (nx -ℤ x) (ny -ℤ y)) + length (stitchOf (mx -ℤ nx) (my -ℤ ny))) × (r ≤ 16) ⌝ }
+{
+    stitch_len(step(x, nx), step(y, ny)) + stitch_len(step(nx, mx), step(ny, my))
+}
+
+// The last command of a list, if it is left: a block of which `len` bytes are counted ends with it, or before it.
+fn scan_last(xs: &[i32], ys: &[i32], kinds: &[u8], i: usize, px: i32, py: i32, len: usize) -> Scan
+    requires { ⌜ Left (now xs) (now ys) (now kinds) i px py len ⌝ }
+    ensures { λ r. ⌜ Rest (was xs) (was ys) (was kinds) i px py len r ⌝ }
+{
+    let n = list_len(xs, ys, kinds);
+    if n <= i {
+        return Scan { len, end: i };
+    }
+    if kinds[i] == 3 {
+        return Scan { len, end: i };
+    }
+    let more = cmd_len(op_of(kinds[i]), step(px, xs[i]), step(py, ys[i]));
+    Scan {
+        len: len + more,
+        end: i + 1,
+    }
+}
+
 // The block from command `from` on, which starts at (x, y).
 fn scan_block(xs: &[i32], ys: &[i32], kinds: &[u8], from: usize, x: i32, y: i32) -> Scan
     requires { ⌜ (length (now kinds) ≤ 65535) × (from ≤ length (commands (now xs) (now ys) (now kinds))) ⌝ }
@@ -58,24 +94,29 @@ fn scan_block(xs: &[i32], ys: &[i32], kinds: &[u8], from: usize, x: i32, y: i32)
     let mut py = y;
     let mut len = 0;
     let mut i = from;
-    while i < n {
-        let kind = kinds[i];
+    while i + 1 < n {
+        let j = i + 1;
         let nx = xs[i];
         let ny = ys[i];
-        if kind == 0 {
-            len += stitch_len(step(px, nx), step(py, ny));
-            px = nx;
-            py = ny;
-            i += 1;
+        if are_stitches(kinds[i], kinds[j]) {
+            let mx = xs[j];
+            let my = ys[j];
+            len += two_len(px, py, nx, ny, mx, my);
+            px = mx;
+            py = my;
+            i = j + 1;
             continue;
         }
-        if kind == 3 {
+        if kinds[i] == 3 {
             return Scan { len, end: i };
         }
-        len += cmd_len(op_of(kind), step(px, nx), step(py, ny));
-        i += 1;
+        let op = op_of(kinds[i]);
+        len += cmd_len(op, step(px, nx), step(py, ny));
+        px = last_stitch(op, px, nx);
+        py = last_stitch(op, py, ny);
+        i = j;
     }
-    Scan { len, end: i }
+    scan_last(xs, ys, kinds, i, px, py, len)
 }
 
 // Where a block from command `from` to before `end` ends, if it starts at z.
@@ -123,6 +164,16 @@ pub fn scan_list(
     }
 }
 
+// Two stitches, from (x, y) to (nx, ny) and on to (mx, my).
+fn put_two(x: i32, y: i32, nx: i32, ny: i32, mx: i32, my: i32, out: &mut [u8], at: usize) -> usize
+    requires { ⌜ Close x y × (Close nx ny × Close mx my) ⌝ }
+    requires { ⌜ at + (length (stitchOf (nx -ℤ x) (ny -ℤ y)) + length (stitchOf (mx -ℤ nx) (my -ℤ ny))) ≤ length (now out) ⌝ }
+    ensures { λ r. ⌜ Puts out at r (stitchOf (nx -ℤ x) (ny -ℤ y) ++ stitchOf (mx -ℤ nx) (my -ℤ ny)) ⌝ }
+{
+    let second = put_stitch(step(x, nx), step(y, ny), out, at);
+    put_stitch(step(nx, mx), step(ny, my), out, second)
+}
+
 // The stitches of the commands from `from` to before `end`, the first from (x, y).
 fn put_stitches(
     xs: &[i32],
@@ -145,19 +196,27 @@ fn put_stitches(
     let mut py = y;
     let mut to = at;
     let mut i = from;
-    while i < end {
-        let kind = kinds[i];
+    while i + 1 < end {
+        let j = i + 1;
         let nx = xs[i];
         let ny = ys[i];
-        if kind == 0 {
-            to = put_stitch(step(px, nx), step(py, ny), out, to);
-            px = nx;
-            py = ny;
-            i += 1;
+        if are_stitches(kinds[i], kinds[j]) {
+            let mx = xs[j];
+            let my = ys[j];
+            to = put_two(px, py, nx, ny, mx, my, out, to);
+            px = mx;
+            py = my;
+            i = j + 1;
             continue;
         }
-        to = put_cmd(op_of(kind), step(px, nx), step(py, ny), out, to);
-        i += 1;
+        let op = op_of(kinds[i]);
+        to = put_cmd(op, step(px, nx), step(py, ny), out, to);
+        px = last_stitch(op, px, nx);
+        py = last_stitch(op, py, ny);
+        i = j;
+    }
+    if i < end {
+        return put_cmd(op_of(kinds[i]), step(px, xs[i]), step(py, ys[i]), out, to);
     }
     to
 }

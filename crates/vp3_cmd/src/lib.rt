@@ -10,7 +10,7 @@ ghost use Prim.Native.Nat.{ℕ, _+_, _*_, _≤_, _<_};
 ghost use lib.IntN.{pos, negℤ, natAbs, _*ℤ_};
 ghost use lib.ListN.{length};
 ghost use Rattle.rules.specs.Vocabulary.{between, bitsOf, joined};
-ghost use Rattle.rules.specs.Vp3.{big, towardZero, hundred, text16, stitchOf, vp3Cmd};
+ghost use Rattle.rules.specs.Vp3.{big, towardZero, hundred, text16, stitchOf, vp3Cmd, lastStitch};
 ghost use Rattle.rules.specs.Promises.{was};
 ghost use Rattle.laws.specs.Buffers.{Puts};
 ghost use Rattle.vp3_cmd.specs.Long.{longOf};
@@ -171,5 +171,15 @@ pub fn cmd_len(op: Op, dx: i32, dy: i32) -> usize
         Op::Stitch => stitch_len(dx, dy),
         Op::Jump | Op::ColorChange => 0,
         Op::Trim | Op::End => 2,
+    }
+}
+
+// Where the last stitch was, once a command that leads from z to `to` is written.
+pub fn last_stitch(op: Op, z: i32, to: i32) -> i32
+    ensures { λ r. ⌜ r ≡ lastStitch op z to ⌝ }
+{
+    match op {
+        Op::Stitch => to,
+        Op::Jump | Op::Trim | Op::ColorChange | Op::End => z,
     }
 }
