@@ -21,7 +21,7 @@ extern "C" {
 #endif
 
 /* Raised with each change of the interface or of what the functions answer; CHANGELOG.md has what changed. */
-#define STITCH_BOX_VERSION "0.2.0"
+#define STITCH_BOX_VERSION "0.3.0"
 
 /* What a function answers: 0, or the number of a refusal. A number comes if its condition holds and that of none before it in the order of
  * checking. Reading checks 1, 2, 3, 4, 5, 11, the count byte (4) after 5; in a VP3 4 and 12 come after 3, in order of place in the file.
@@ -110,7 +110,8 @@ size_t stitch_box_write_bound(const uint8_t *ext, size_t ext_length, size_t comm
  * there the place left is that of the stitch before, or the block's start; the needle places are those of the list.
  *
  * A block is what is sewn in one colour: a colour change opens the next, and blocks are numbered from 0. Blocks without runs are left out.
- * Cuts are runs less blocks listed: how often the thread is cut within a colour.
+ * Cuts are how often the thread is cut within a colour: runs less blocks listed. A DST machine cuts only after three or more jump records
+ * in a row between two stitches of one block, so in DST the cuts are the number of such rows, however long; a colour change ends a row.
  *
  * places: x and y of each point, run after run. runs: the points of each run. blocks: three numbers each, the block's number, its colour
  * (65,536 red + 256 green + blue) and its runs. The four counts are points, runs, blocks listed and cuts. Filled are two elements of places

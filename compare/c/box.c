@@ -1,5 +1,6 @@
 /* Writes a square in each format by both writes, reads it back, asks for its label and prints what came back; then sees to it that refused
- * calls answer their number and change no buffer. Valid C99 and C++. The status is 1 if anything is wrong. */
+ * calls answer their number and change no buffer, and that the cuts of a DST are counted by rows of jumps. Valid C99 and C++. The status is
+ * 1 if anything is wrong. */
 #include "../../include/stitch_box.h"
 #include <stdio.h>
 #include <string.h>
@@ -169,6 +170,19 @@ static void refuse(const char *ext, size_t length)
     see(read_file(ext, length, 9) == STITCH_BOX_BUFFER_TOO_SHORT && nothing_read(), ext, "an element of places too few");
 }
 
+/* Reads a DST of a stitch, so many jumps and a stitch, all on the spot: three jumps and more are a cut. */
+static void count_cuts(size_t jumps)
+{
+    size_t length = 512 + 3 * (jumps + 2);
+    memset(file, ' ', 512);
+    memset(file + 512, 0, length - 512);
+    for (size_t at = 0; at < jumps + 2; at++)
+        file[512 + 3 * at + 2] = at == 0 || at == jumps + 1 ? 0x03 : 0x83;
+    see(read_file("dst", length, STITCH_BOX_PLACES_FOR(length)) == STITCH_BOX_DONE, "dst", "the read of a row of jumps");
+    see(run_count == (jumps == 0 ? 1 : 2) && block_count == 1, "dst", "the runs of a row of jumps");
+    see(cut_count == (jumps < 3 ? 0 : 1), "dst", "the cuts of a row of jumps");
+}
+
 /* Each function under an unknown extension. */
 static void refuse_extension(const char *ext)
 {
@@ -196,6 +210,10 @@ int main(void)
     }
     see(stitch_box_write_bound(bytes("pes"), 3, SIZE_MAX, SIZE_MAX) == STITCH_BOX_WRITE_BOUND, "pes", "the greatest bound");
     refuse_extension("txt");
+    for (size_t jumps = 0; jumps < 7; jumps++)
+        count_cuts(jumps);
+    if (!wrong)
+        printf("cuts of a DST: none for a row of fewer than three jumps between two stitches, one for a row of three to six\n");
     if (!wrong)
         printf("refused as they should be: buffers that are too short, 65,536 records, an unknown extension\n");
     return wrong;

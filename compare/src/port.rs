@@ -283,11 +283,12 @@ pub fn needed() -> io::Result<()> {
     }
 }
 
-/// An answer as the cells of the three buffers.
+/// An answer as the cells of the three buffers, and its cuts.
 pub struct Cells {
     pub places: Vec<i32>,
     pub runs: Vec<u32>,
     pub blocks: Vec<u32>,
+    pub cuts: u32,
 }
 
 impl Cells {
@@ -303,6 +304,7 @@ impl Cells {
             places: places.collect(),
             runs: runs.map(|run| run.len() as u32).collect(),
             blocks: reading.blocks.iter().flat_map(record).collect(),
+            cuts: reading.cuts,
         }
     }
 
@@ -311,7 +313,7 @@ impl Cells {
         let points = self.places.len() as u32 / 2;
         let runs = self.runs.len() as u32;
         let blocks = self.blocks.len() as u32 / 3;
-        [points, runs, blocks, runs - blocks]
+        [points, runs, blocks, self.cuts]
     }
 
     /// How many cells of each buffer they take.

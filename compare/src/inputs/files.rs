@@ -2,7 +2,7 @@
 //! ones and random ones. Labels of PEC and headers of DST stay below 128,
 //! where document 01 holds the rules and the published Rust for equal.
 
-use crate::inputs::{lists, vp3_files};
+use crate::inputs::{jump_rows, lists, vp3_files};
 use crate::oracle::{self, Format};
 use crate::random::Random;
 
@@ -21,6 +21,7 @@ pub fn all(seed: u64) -> Vec<File> {
     files.extend(pec(&mut random));
     files.extend(dst(&mut random));
     files.extend(written(&mut random));
+    files.extend(jump_rows::boundary(seed));
     files.retain(in_domain);
     files
 }

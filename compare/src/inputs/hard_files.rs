@@ -4,7 +4,7 @@
 //! the published Rust for equal.
 
 use crate::inputs::files::{self, EXTS, File, PAIRS, STEPS, THIRDS};
-use crate::inputs::{headers, lists, non_ascii, records, vp3_files, vp3_marks};
+use crate::inputs::{headers, jump_rows, lists, non_ascii, records, vp3_files, vp3_marks};
 use crate::oracle::{self, Format, block_numbers};
 use crate::random::Random;
 use std::sync::Arc;
@@ -172,6 +172,7 @@ impl HardFiles {
         };
         let body = match random.below(4) {
             0 | 1 => records::mixed(format, length, random),
+            2 if format == Format::Dst => jump_rows::going(length, random),
             2 => records::going(format, length, 5, random),
             _ => scattered(format, length, random),
         };

@@ -9,6 +9,7 @@ pub mod hard_files;
 pub mod hard_lists;
 pub mod headers;
 pub mod hostile_files;
+pub mod jump_rows;
 pub mod leaf_questions;
 pub mod lists;
 pub mod long_files;

@@ -1,10 +1,10 @@
 //! How the published Rust is called: one write or one read, one answer. Reads of VP3, which it
-//! does not have, are those of `vp3_reader`.
+//! does not have, are those of `vp3_reader`, and the cuts of a DST those of `dst_cuts`.
 
 use crate::design::{Block as Colour, Design};
 use crate::formats::read::{StitchFile, read_stitch_file};
 use crate::formats::{Cmd, ExportOptions, Op, dst, pes};
-use crate::oracle::{block_numbers, more_writers, vp3_reader};
+use crate::oracle::{block_numbers, dst_cuts, more_writers, vp3_reader};
 
 /// Files read are no longer than this.
 pub const LONGEST: usize = 2_097_152;
@@ -162,6 +162,7 @@ pub struct Block {
 pub struct Reading {
     pub label: Vec<u8>,
     pub blocks: Vec<Block>,
+    pub cuts: u32,
     /// The block numbers are certain; else they are the least that fit.
     pub exact: bool,
 }
@@ -192,7 +193,11 @@ fn read_by(ext: &[u8], file: &[u8], find: fn(Format, &[u8]) -> (Vec<u32>, bool))
     let format = format.expect("a format that the Rust reads");
     let (found, exact) = find(format, file);
     assert_eq!(found.len(), read.blocks.len(), "a number for each block");
-    Ok(reading(read, &found, exact))
+    let mut reading = reading(read, &found, exact);
+    if format == Format::Dst {
+        reading.cuts = dst_cuts::count(file);
+    }
+    Ok(reading)
 }
 
 fn reading(read: StitchFile, found: &[u32], exact: bool) -> Reading {
@@ -201,11 +206,18 @@ fn reading(read: StitchFile, found: &[u32], exact: bool) -> Reading {
         colour: block.color,
         runs: block.runs.iter().map(|run| points(run)).collect(),
     };
+    let blocks: Vec<Block> = read.blocks.into_iter().zip(found).map(block).collect();
     Reading {
         label: read.name.into_bytes(),
-        blocks: read.blocks.into_iter().zip(found).map(block).collect(),
+        cuts: runs_less_blocks(&blocks),
+        blocks,
         exact,
     }
+}
+
+/// The cuts of every format but DST.
+pub fn runs_less_blocks(blocks: &[Block]) -> u32 {
+    blocks.iter().map(|block| block.runs.len() as u32 - 1).sum()
 }
 
 fn points(run: &[crate::geom::P]) -> Vec<(i32, i32)> {

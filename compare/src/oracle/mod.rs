@@ -1,9 +1,10 @@
 //! The published Rust: its stand-ins, how it is called, the block numbers that it
 //! does not tell; and what is written from the documents' text: sewing, needle
-//! places, the refusals of lists, and the reader of VP3.
+//! places, the refusals of lists, the reader of VP3, and the cuts of a DST.
 
 pub mod block_numbers;
 pub mod calls;
+pub mod dst_cuts;
 pub mod more_writers;
 pub mod needles;
 pub mod refusals;

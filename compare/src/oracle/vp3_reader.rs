@@ -2,6 +2,7 @@
 //! none. It goes through the file from front to back, so the first fault that it
 //! meets is the first by place in the file.
 
+use crate::oracle::calls::runs_less_blocks;
 use crate::oracle::{Answer, Block, Reading};
 
 type Place = (i32, i32);
@@ -35,6 +36,7 @@ pub fn read(file: &[u8]) -> Answer {
     let blocks = blocks(&mut design, count)?;
     Ok(Reading {
         label: Vec::new(),
+        cuts: runs_less_blocks(&blocks),
         blocks,
         exact: true,
     })

@@ -167,6 +167,7 @@ fn read_case(ext: &[u8], file: &[u8], answer: &Answer) -> Option<Vec<u8>> {
         Ok(reading) => {
             case.push(0);
             put_short(&mut case, &reading.label);
+            put_u16(&mut case, reading.cuts as usize);
             put_u16(&mut case, reading.blocks.len());
             for block in &reading.blocks {
                 put_block(&mut case, block);

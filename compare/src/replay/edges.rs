@@ -148,11 +148,12 @@ fn holds(kind: &str, words: &mut Words) -> bool {
         "toldByRead" => {
             let read = oracle::read(&words.bytes(), &words.bytes());
             let lent = [words.number(), words.number(), words.number()];
+            let cuts = read.as_ref().map_or(0, |reading| reading.cuts.into());
             let told = match fitting(read, lent) {
                 Err(number) => [number.into(), 0, 0, 0, 0],
                 Ok([blocks, runs, places]) => {
                     let [blocks, runs] = [blocks.len() as i64 / 3, runs.len() as i64];
-                    [0, places.len() as i64 / 2, runs, blocks, runs - blocks]
+                    [0, places.len() as i64 / 2, runs, blocks, cuts]
                 }
             };
             told[..] == words.list()

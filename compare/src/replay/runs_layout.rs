@@ -39,7 +39,7 @@ fn counts(blocks: &[Block]) -> (usize, usize, usize) {
 fn print(ext: &[u8], reading: &Reading) -> String {
     let (points, runs, blocks) = counts(&reading.blocks);
     let ext = String::from_utf8_lossy(ext);
-    let cuts = runs - blocks;
+    let cuts = reading.cuts;
     let mut out = format!("{ext} blocks {blocks} runs {runs} points {points} cuts {cuts}\n");
     let shown = |&byte: &u8| match byte {
         0x20..=0x7E => char::from(byte),

@@ -10,7 +10,7 @@ use lib.IntN.{ℤ, pos}
 use lib.Signed.{ltZ}
 use lib.ListN.{length}
 use Rattle.rules.specs.Files.{eventsOf, placesOf, runsOf, blocksOf, colourOf, stored, fileRefusals, noRoom, readVerdict, readAnswer, filled}
-use Rattle.rules.specs.Files.{placesTold, runsTold, blocksTold}
+use Rattle.rules.specs.Files.{placesTold, runsTold, blocksTold, cutsOf, cutsTold}
 use Rattle.rules.specs.Promises.{ReadOf}
 use Rattle.read_records.specs.Firsts.{firstOf}
 use Rattle.rules.specs.Text.{wordAt, begins}
@@ -73,7 +73,7 @@ module _ (s : List ℕ) where
 
   -- the answers by its head are the file's
   by-head : (f : Format) {P P′ : List ℤ} {R R′ B B′ : List ℕ} {r : ReadAnswer} → HeadGiven (headOf f s) s P P′ R R′ B B′ r → FileGiven f s P P′ R R′ B B′ r
-  unfolding placesOf runsOf blocksOf eventsOf pecEvents firstOf colourOf stored
+  unfolding placesOf runsOf blocksOf cutsOf eventsOf pecEvents firstOf colourOf stored
   by-head Pes g = g
   by-head Pec g = g
   by-head Dst g = g
@@ -101,7 +101,7 @@ module _ (f : Format) (s : List ℕ) where
 
     -- the file is not refused, and the room decides
     pub has-read : {h : Head} {P′ : List ℤ} {R′ B′ : List ℕ} {r : ReadAnswer} → frontOf f s ≡ At h → HeadGiven h s P P′ R R′ B B′ r → ReadOf (Of f) s P R B P′ R′ B′ r
-    unfolding frontOf readVerdict noRoom roomVerdict placesTold runsTold blocksTold
+    unfolding frontOf readVerdict noRoom roomVerdict placesTold runsTold blocksTold cutsTold
     has-read {P′ = P′} {R′ = R′} {B′ = B′} {r = r} e w =
         let b = begun (verdict (fileRefusals f s)) (headOf f s) e in
         let g = by-head s f (subst (λ (k : Head). HeadGiven k s P P′ R R′ B B′ r) (sym (b .1)) w) in

@@ -8,7 +8,7 @@ use borrow.Author.Tests.{not-false}
 use lib.IntN.{ℤ}
 use lib.ListN.{length}
 use lib.Seq.{sets}
-use Rattle.rules.specs.Files.{eventsOf, placesOf, runsOf, blocksOf, colourOf, filled}
+use Rattle.rules.specs.Files.{eventsOf, placesOf, runsOf, blocksOf, cutsOf, colourOf, filled}
 use Rattle.rules.specs.Refusals.{verdict}
 use Rattle.rules.specs.Text.{begins}
 use Rattle.rules.specs.Vp3.{vp3Opening, rowOf, faultIn, eventsIn, vp3Blocks}
@@ -22,11 +22,12 @@ use Rattle.laws.specs.Buffers.{put-by, put-front}
 use Rattle.laws.specs.Verdicts.{first-false}
 use Rattle.read_refusals.proofs.Checked.{vp3-opened}
 use Rattle.read_refusals.specs.declared.Head.the-variants as head
-use Rattle.read_vp3.proofs.Tallied.{told-answers}
+use Rattle.read_passes.specs.Told.{sizesOf}
+use Rattle.read_vp3.proofs.Tallied.{counts-are, told-answers}
 use Rattle.read_vp3.specs.Fills as fills
 use Rattle.read_vp3.specs.Walks.{Told}
 use Rattle.read.specs.Answered.{Opened, roomFor, HeadGiven}
-use Rattle.read.proofs.Rooms.{Fits, fits-told, given-read}
+use Rattle.read.proofs.Rooms.{Fits, Sized, fits-told, given-read, of-vp3}
 
 row-accepts : (v : Verdict) → verdict (rowOf v) ≡ Accepted → v ≡ Accepted
 unfolding verdict rowOf
@@ -50,20 +51,23 @@ module _ {s : List ℕ} {k : Counts} (o : Opened (head.Vp3 k) s) where
   long = vp3-opened s (not-false _ (begun .0))
 
   pub counted : Told (eventsIn (vp3Blocks s)) k
-  unfolding placesOf runsOf blocksOf eventsOf
+  unfolding placesOf runsOf blocksOf cutsOf eventsOf
   counted = rw (o .told .1) (told-answers (eventsIn (vp3Blocks s)) (colourOf Vp3 s))
 
-  module _ {np nr nb : ℕ} (room : roomFor k np nr nb ≡ true) where
+  pub sized : Sized (eventsIn (vp3Blocks s)) (sizesOf k)
+  sized = of-vp3 counted
+
+  module _ {np nr nb : ℕ} (room : roomFor (sizesOf k) np nr nb ≡ true) where
     pub vp3-fits : fills.Fits (vp3Blocks s) np nr nb
     vp3-fits = record {
-      place-cells = fits-told (colourOf Vp3 s) counted np nr nb room .places;
-      run-cells = fits-told (colourOf Vp3 s) counted np nr nb room .runs;
-      block-cells = λ c. fits-told c counted np nr nb room .blocks;
+      place-cells = fits-told (colourOf Vp3 s) sized np nr nb room .places;
+      run-cells = fits-told (colourOf Vp3 s) sized np nr nb room .runs;
+      block-cells = λ c. fits-told c sized np nr nb room .blocks;
     }
 
-  pub vp3-read : {P P′ : List ℤ} {R R′ B B′ : List ℕ} → roomFor k (length P) (length R) (length B) ≡ true
+  pub vp3-read : {P P′ : List ℤ} {R R′ B B′ : List ℕ} → roomFor (sizesOf k) (length P) (length R) (length B) ≡ true
       → fills.Filled (vp3Blocks s) P P′ R R′ B B′ → HeadGiven (head.Vp3 k) s P P′ R R′ B B′ (Read k)
   vp3-read {P} {P′} {R} {R′} {B} {B′} room w =
       let c = fills.colourBy (vp3Blocks s) in
-      let h = fits-told c counted (length P) (length R) (length B) room in
-      given-read c counted h (w .places ∙ front-of _ P (h .places)) (w .runs ∙ front-of _ R (h .runs)) (w .blocks ∙ front-of _ B (h .blocks))
+      let h = fits-told c sized (length P) (length R) (length B) room in
+      given-read c h (counts-are (eventsIn (vp3Blocks s)) c counted) (w .places ∙ front-of _ P (h .places)) (w .runs ∙ front-of _ R (h .runs)) (w .blocks ∙ front-of _ B (h .blocks))

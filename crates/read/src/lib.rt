@@ -7,7 +7,9 @@ use read_header::dst_colors;
 use read_header::jef_colors;
 use read_header::part;
 use read_header::pec_colors;
+use read_passes::Sizes;
 use read_passes::ample;
+use read_passes::sizes_of;
 use read_records::Row;
 use read_refusals::Head;
 use read_refusals::Opening;
@@ -33,7 +35,7 @@ ghost use Rattle.read_refusals.specs.declared.Head.the-variants.{Pec, Dst, Exp,
 ghost use Rattle.read.specs.Answered.{Answered, HeadAnswered, Opened, roomFor};
 
 // Whether the answers fit: refusal 11 if not.
-fn has_room(c: Counts, places: usize, runs: usize, blocks: usize) -> bool
+fn has_room(c: Sizes, places: usize, runs: usize, blocks: usize) -> bool
     ensures { λ r. ⌜ r ≡ roomFor c places runs blocks ⌝ }
 {
     if places < 2 * (c.points as usize) {
@@ -170,7 +172,7 @@ fn read_vp3(
     requires { ⌜ Opened (Vp3 counts) (now file) ⌝ }
     ensures { λ r. ⌜ HeadAnswered (Vp3 counts) (was file) places runs blocks r ⌝ }
 {
-    if has_room(counts, places.len(), runs.len(), blocks.len()) {
+    if has_room(sizes_of(counts), places.len(), runs.len(), blocks.len()) {
         read_vp3::fill(file, places, runs, blocks);
         return ReadAnswer::Read(counts);
     }

@@ -4,3 +4,4 @@ pub mod Places
 pub mod Lent
 pub mod Methods
 pub mod Lenders
+pub mod Rows

@@ -1,2 +1,3 @@
 pub mod Builders
 pub mod Colour
+pub mod Cuts

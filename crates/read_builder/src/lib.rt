@@ -1,7 +1,8 @@
-// Reading: what has been read so far, and the colours of blocks.
+// Reading: what has been read so far, the colours of blocks, and the cuts of a DST.
 // The builder is one small record that is passed by mutable reference; here is what each record of a file makes of it.
 // A port of src/formats/read.rs of zigzag, changed.
 pub mod colors;
+pub mod cuts;
 
 use rules::Counts;
 use rules::Record;

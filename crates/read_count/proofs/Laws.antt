@@ -11,7 +11,6 @@ use lib.IntN.{ℤ, pos}
 use lib.ListN.{length, drop}
 use Rattle.rules.specs.Answers.{pointsAfter}
 use Rattle.rules.specs.Vocabulary.{pick}
-use Rattle.rules.specs.declared.Counts.{Counts}
 use Rattle.read_records.specs.declared.Row.{Row}
 use Rattle.rules.specs.declared.Record.{Record}
 use Rattle.rules.specs.declared.Record.the-variants.{StitchBy, JumpBy, ChangeBy, Finish}
@@ -21,7 +20,8 @@ use Rattle.read_builder.proofs.Parts.{may-open, sizes}
 use Rattle.read_builder.specs.Builders.{origin, some, opening, followed, placeAfter}
 use Rattle.read_builder.specs.declared.Builder.{Builder}
 use Rattle.read_passes.proofs.Loops.{counting-start, counting-again, counting-done, stays, later}
-use Rattle.read_passes.specs.Told.{Told}
+use Rattle.read_passes.specs.Told.{Sized}
+use Rattle.read_passes.specs.declared.Sizes.{Sizes}
 use Rattle.read_count.specs.Tallies.{noTally, tallied, talliedMany, talliedChange, SmallTally, Like, Tallying, Jumps, none, more}
 use Rattle.read_count.specs.declared.tally.Tally.{Tally}
 
@@ -102,15 +102,11 @@ module _ {f : Row} {bytes : List ℕ} where
     change-small =
         omega (arith, tallying-small, g .counting .bounded, g .counting .within, g .short, g .like, bit-le (eqb (t .runs) (t .first)))
 
-    pub change-fewer : talliedChange t .blocks ≤ talliedChange t .runs
-    change-fewer = omega (arith, g .counting .bounded .fewer, g .like, differs (g .builder .begun) (t .runs) (t .first) (g .like .first))
-
-    pub tallying-done : length bytes ≤ at → {k : Counts} → k .points ≡ t .stitches + t .runs → k .runs ≡ t .runs
-        → k .blocks ≡ talliedChange t .blocks
-        → k .cuts + talliedChange t .blocks ≡ t .runs → Told (firstOf f) bytes k
-    tallying-done h p r bl cu =
+    pub tallying-done : length bytes ≤ at → {z : Sizes} → z .points ≡ t .stitches + t .runs → z .runs ≡ t .runs
+        → z .blocks ≡ talliedChange t .blocks → Sized (firstOf f) bytes z
+    tallying-done h p r bl =
         let d = differs (g .builder .begun) (t .runs) (t .first) (g .like .first) in
-        counting-done f bytes h (g .counting) (omega (arith, g .like))
+        counting-done f bytes h (g .counting) (omega (arith, g .like)) (omega (arith, g .like)) (omega (arith, g .like, d))
 
   pub passed-two : {t : Tally} {at : ℕ} → Tallying f bytes t at → at < length bytes → {dx dy ex ey : ℤ} {n m : ℕ}
       → firstOf f (drop at bytes) ≡ StitchBy dx dy n

@@ -9,17 +9,17 @@ pub mod triples;
 use crate::pairs::count_pairs;
 use crate::steps::count_steps;
 use crate::triples::count_triples;
+use read_passes::Sizes;
 use read_records::Row;
-use rules::Counts;
 ghost use Prim.Native.Nat.{_≤_};
 ghost use lib.ListN.{length};
 ghost use Rattle.rules.specs.Promises.{was};
 ghost use Rattle.read_records.specs.Firsts.{firstOf};
-ghost use Rattle.read_passes.specs.Told.{Told};
+ghost use Rattle.read_passes.specs.Told.{Sized};
 
-pub fn count(f: Row, bytes: &[u8]) -> Counts
+pub fn count(f: Row, bytes: &[u8]) -> Sizes
     requires { ⌜ length (now bytes) ≤ 2097152 ⌝ }
-    ensures { λ r. ⌜ Told (firstOf f) (was bytes) r ⌝ }
+    ensures { λ r. ⌜ Sized (firstOf f) (was bytes) r ⌝ }
 {
     match f {
         Row::Pec => count_steps(bytes),

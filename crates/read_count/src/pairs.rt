@@ -7,10 +7,10 @@ use crate::tally::none;
 use crate::tally::tally_change;
 use crate::tally::tally_many;
 use crate::tally::tally_one;
+use read_passes::Sizes;
 use read_passes::last_turn;
 use read_records::Row;
 use read_records::pair::kinds;
-use rules::Counts;
 ghost use mathlib.Core.Path.{_≡_};
 ghost use mathlib.Core.Bool.{Bool};
 ghost use Prim.Native.Nat.{_+_, _≤_, _<_};
@@ -18,7 +18,7 @@ ghost use lib.ListN.{length, getD};
 ghost use Rattle.rules.specs.Promises.{was};
 ghost use Rattle.read_records.specs.Firsts.{firstOf};
 ghost use Rattle.read_records.specs.Tables.{Kinds};
-ghost use Rattle.read_passes.specs.Told.{Told};
+ghost use Rattle.read_passes.specs.Told.{Sized};
 ghost use Rattle.read_count.specs.Tallies.{Tallying, pairRow};
 
 // A control.
@@ -83,9 +83,9 @@ fn row_of(jef: bool) -> Row
     Row::Exp
 }
 
-pub fn count_pairs(jef: bool, bytes: &[u8]) -> Counts
+pub fn count_pairs(jef: bool, bytes: &[u8]) -> Sizes
     requires { ⌜ length (now bytes) ≤ 2097152 ⌝ }
-    ensures { λ r. ⌜ Told (firstOf (pairRow jef)) (was bytes) r ⌝ }
+    ensures { λ r. ⌜ Sized (firstOf (pairRow jef)) (was bytes) r ⌝ }
 {
     let table = kinds(jef);
     let mut t = none();

@@ -7,6 +7,7 @@ use crate::tally::none;
 use crate::tally::tally_change;
 use crate::tally::tally_many;
 use crate::tally::tally_one;
+use read_passes::Sizes;
 use read_passes::last_turn;
 use read_records::Row;
 use read_records::words::eight;
@@ -17,7 +18,6 @@ use read_records::words::short_long;
 use read_records::words::top;
 use read_records::words::two_long;
 use read_records::words::two_short;
-use rules::Counts;
 ghost use mathlib.Core.Path.{_≡_};
 ghost use Prim.Native.Nat.{ℕ, _+_, _≤_, _<_};
 ghost use lib.ListN.{length};
@@ -25,7 +25,7 @@ ghost use Rattle.rules.specs.Promises.{was};
 ghost use Rattle.read_records.specs.declared.Row.the-variants.{Pec};
 ghost use Rattle.read_records.specs.Firsts.{firstOf};
 ghost use Rattle.read_records.specs.Words.{fourAt};
-ghost use Rattle.read_passes.specs.Told.{Told};
+ghost use Rattle.read_passes.specs.Told.{Sized};
 ghost use Rattle.read_count.specs.Tallies.{Tallying, Jumps};
 
 // Passes the jumps that stand at `from`, as long as they begin before `end` and with a byte below FE.
@@ -111,9 +111,9 @@ fn pass_steps(t: Tally, bytes: &[u8], at: usize, end: usize) -> Passed
     pass_word(t, bytes, at, (v % 4294967296) as u32, end)
 }
 
-pub fn count_steps(bytes: &[u8]) -> Counts
+pub fn count_steps(bytes: &[u8]) -> Sizes
     requires { ⌜ length (now bytes) ≤ 2097152 ⌝ }
-    ensures { λ r. ⌜ Told (firstOf Pec) (was bytes) r ⌝ }
+    ensures { λ r. ⌜ Sized (firstOf Pec) (was bytes) r ⌝ }
 {
     let mut t = none();
     let mut at: usize = 0;

@@ -1,5 +1,6 @@
 // The numbers that are kept while records are counted, and the plain loop.
 // A port of src/formats/read.rs of zigzag, changed.
+use read_passes::Sizes;
 use read_records::Row;
 use read_records::record_at;
 use rules::Counts;
@@ -11,7 +12,7 @@ ghost use lib.Dec.{eqb};
 ghost use Rattle.rules.specs.Promises.{was};
 ghost use Rattle.rules.specs.Vocabulary.{pick};
 ghost use Rattle.read_records.specs.Firsts.{firstOf};
-ghost use Rattle.read_passes.specs.Told.{Told};
+ghost use Rattle.read_passes.specs.Told.{Sized};
 ghost use Rattle.read_count.specs.Tallies.{noTally, tallied, talliedMany, talliedChange, SmallTally, Tallying};
 
 // Stitches; runs begun; 1 where a run is open; the runs begun before this block; and blocks with runs that have ended.
@@ -118,7 +119,19 @@ fn pass(f: Row, bytes: &[u8], t: Tally, at: usize) -> Passed
     }
 }
 
-// The counts of a tally, once nothing more comes.
+// What the answers hold by a tally, once nothing more comes.
+pub fn sizes(t: Tally) -> Sizes
+    requires { ⌜ SmallTally t ⌝ }
+    ensures { λ r. ⌜ (r .points ≡ t .stitches + t .runs) × (r .runs ≡ t .runs) × (r .blocks ≡ t .blocks) ⌝ }
+{
+    Sizes {
+        points: t.stitches + t.runs,
+        runs: t.runs,
+        blocks: t.blocks,
+    }
+}
+
+// The same, and the cuts: runs less blocks.
 pub fn counts(t: Tally) -> Counts
     requires { ⌜ SmallTally t ⌝ }
     requires { ⌜ t .blocks ≤ t .runs ⌝ }
@@ -133,9 +146,9 @@ pub fn counts(t: Tally) -> Counts
 }
 
 // One record after the other, from byte `from` on, to the end.
-pub fn count_rest(f: Row, bytes: &[u8], from: usize, first: Tally) -> Counts
+pub fn count_rest(f: Row, bytes: &[u8], from: usize, first: Tally) -> Sizes
     requires { ⌜ Tallying f (now bytes) first from ⌝ }
-    ensures { λ r. ⌜ Told (firstOf f) (was bytes) r ⌝ }
+    ensures { λ r. ⌜ Sized (firstOf f) (was bytes) r ⌝ }
 {
     let mut t = first;
     let mut at = from;
@@ -144,5 +157,5 @@ pub fn count_rest(f: Row, bytes: &[u8], from: usize, first: Tally) -> Counts
         t = p.t;
         at = p.at;
     }
-    counts(tally_change(t))
+    sizes(tally_change(t))
 }

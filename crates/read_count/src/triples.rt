@@ -7,9 +7,9 @@ use crate::tally::none;
 use crate::tally::tally_change;
 use crate::tally::tally_many;
 use crate::tally::tally_one;
+use read_passes::Sizes;
 use read_passes::last_turn;
 use read_records::Row;
-use rules::Counts;
 ghost use mathlib.Core.Path.{_≡_};
 ghost use Prim.Native.Nat.{_+_, _≤_, _<_};
 ghost use lib.ListN.{length};
@@ -18,7 +18,7 @@ ghost use Rattle.rules.specs.Promises.{was};
 ghost use Rattle.rules.specs.Vocabulary.{pick};
 ghost use Rattle.read_records.specs.declared.Row.the-variants.{Dst};
 ghost use Rattle.read_records.specs.Firsts.{firstOf};
-ghost use Rattle.read_passes.specs.Told.{Told};
+ghost use Rattle.read_passes.specs.Told.{Sized};
 ghost use Rattle.read_count.specs.Tallies.{Tallying};
 
 // 1 for a stitch, 0 for a jump or a colour change.
@@ -59,9 +59,9 @@ fn pass_triple(t: Tally, bytes: &[u8], at: usize) -> Passed
     }
 }
 
-pub fn count_triples(bytes: &[u8]) -> Counts
+pub fn count_triples(bytes: &[u8]) -> Sizes
     requires { ⌜ length (now bytes) ≤ 2097152 ⌝ }
-    ensures { λ r. ⌜ Told (firstOf Dst) (was bytes) r ⌝ }
+    ensures { λ r. ⌜ Sized (firstOf Dst) (was bytes) r ⌝ }
 {
     let mut t = none();
     let mut at: usize = 0;

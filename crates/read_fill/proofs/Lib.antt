@@ -1,3 +1,4 @@
 -- Lemmas that more than one proof cites.
 pub mod Laws
 pub mod Hops
+pub mod Rows

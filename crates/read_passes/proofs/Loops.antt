@@ -26,7 +26,8 @@ use Rattle.read_records.specs.Fields.{lenOf, dxOf, dyOf}
 use Rattle.read_builder.proofs.Parts.{run-cells, block-cells}
 use Rattle.read_builder.specs.Builders.{origin, followed, finished, placeAfter, placesBy, runsBy, blocksBy, Counted, Small, Reach, Holds}
 use Rattle.read_builder.specs.declared.Builder.{Builder}
-use Rattle.read_passes.specs.Told.{placesIn, runsIn, blocksIn, Told, Fits}
+use Rattle.read_passes.specs.Told.{placesIn, runsIn, blocksIn, Sized, sizesOf, Fits}
+use Rattle.read_passes.specs.declared.Sizes.{Sizes}
 use Rattle.read_passes.specs.Walks.{placesLeft, runsLeft, blocksLeft, moved, Bounded, eventsFrom, Counting, Ready, Went, none, on, Ended}
 use Rattle.read_passes.proofs.Turns.{eventsAfter, places-next, runs-next, blocks-next, points-by, runs-by, blocks-by, left-anywhere, any-colours, bounded-next}
 
@@ -262,18 +263,17 @@ module _ (f : Row) (bytes : List ℕ) where
 
   -- ---- at the end
 
-  -- k is what the builder counts once it is finished
-  pub counting-done : {b : Builder} {at : ℕ} → length bytes ≤ at → Counting f bytes b at → {k : Counts} → Counted (finished b) k
-      → Told (firstOf f) bytes k
+  -- z is what the builder counts once it is finished
+  pub counting-done : {b : Builder} {at : ℕ} → length bytes ≤ at → Counting f bytes b at → {z : Sizes} → z .points ≡ b .points
+      → z .runs ≡ finished b .runs → z .blocks ≡ finished b .blocks → Sized (firstOf f) bytes z
   unfolding places runs blocks
-  counting-done {b} {at} h g q =
+  counting-done {b} {at} h g ep er eb =
       let gp = rw (ended at h) at (g .places) in
       let gr = rw (ended at h) at (g .runs) in
       record {
-        points = omega (arith, gp, q);
-        runs = omega (arith, gr, q, run-cells (b .run));
-        blocks = λ c. omega (arith, rw (ended at h) at (g .blocks c), q, block-cells c (b .block) (b .begun));
-        cuts = omega (arith, q);
+        points = omega (arith, gp, ep);
+        runs = omega (arith, gr, er, run-cells (b .run));
+        blocks = λ c. omega (arith, rw (ended at h) at (g .blocks c), eb, block-cells c (b .block) (b .begun));
       }
 
   -- from the first record to the last
@@ -300,13 +300,13 @@ module _ (f : Row) (bytes : List ℕ) where
 
     pub settled : {k : Counts} {R′ B′ : List ℕ} → Counted (finished b) k
         × ((R′ ≡ sets R (b .runs) (runOf (b .run))) × (B′ ≡ sets B (blockCells * b .blocks) (blockOf c (b .block) (b .begun))))
-        → Told (firstOf f) bytes k × ((P ≡ filled Accepted (placesIn (firstOf f) bytes) P₀)
+        → Sized (firstOf f) bytes (sizesOf k) × ((P ≡ filled Accepted (placesIn (firstOf f) bytes) P₀)
         × ((R′ ≡ filled Accepted (runsIn (firstOf f) bytes) R₀) × (B′ ≡ filled Accepted (blocksIn c (firstOf f) bytes) B₀)))
     unfolding filled places
     settled q =
         let r = writing-more {vs = runOf (b .run)} (all .runs) last-run (put-by refl (q .1 .0)) in
         let l = writing-more {vs = blockOf c (b .block) (b .begun)} (all .blocks) last-block (put-by refl (q .1 .1)) in (
-          counting-done (w .past) (counted all) (q .0),
+          counting-done (w .past) (counted all) (q .0 .points) (q .0 .runs) (q .0 .blocks),
           (
             put-front (fit .places) (writing-done (all .places) (rw (ended (w .end) (w .past)))) .1,
             (put-front (fit .runs) (writing-done r refl) .1, put-front (fit .blocks) (writing-done l refl) .1),

@@ -22,8 +22,25 @@ ghost use Rattle.rules.specs.Limits.{blockCells};
 ghost use Rattle.rules.specs.Promises.{was, left};
 ghost use Rattle.read_builder.specs.Builders.{Small, Counted, finished};
 ghost use Rattle.read_builder.specs.Colour.{colourIn};
-ghost use Rattle.read_passes.specs.Told.{Ample};
+ghost use Rattle.read_passes.specs.Told.{Ample, sizesOf};
 ghost use Rattle.read_passes.specs.Walks.{Ready, Ended};
+
+// How much the answers hold: points, runs and blocks listed.
+pub struct Sizes {
+    pub points: u32,
+    pub runs: u32,
+    pub blocks: u32,
+}
+
+pub fn sizes_of(c: Counts) -> Sizes
+    ensures { λ r. ⌜ r ≡ sizesOf c ⌝ }
+{
+    Sizes {
+        points: c.points,
+        runs: c.runs,
+        blocks: c.blocks,
+    }
+}
 
 // One record after the other, from byte `from` on, to the end.
 pub fn fill_rest(

@@ -12,7 +12,7 @@ use lib.ListN.{length, getD}
 use Rattle.rules.specs.Refusals.{verdict}
 use Rattle.rules.specs.Pec.{noCount}
 use Rattle.rules.specs.Pes.{partAt}
-use Rattle.rules.specs.Files.{eventsOf, colourOf, placesOf, runsOf, blocksOf, fileRefusals}
+use Rattle.rules.specs.Files.{eventsOf, colourOf, placesOf, runsOf, blocksOf, cutsOf, fileRefusals}
 use Rattle.rules.specs.Vp3.{vp3Opening, rowOf, faultIn, eventsIn, vp3Blocks}
 use Rattle.rules.specs.Text.{begins, wordAt}
 use Rattle.rules.specs.declared.Counts.{Counts}
@@ -104,7 +104,7 @@ module _ (s : List ℕ) where
     vp3-faulty e = rw (b, e)
 
     pub vp3-sound : {k : Counts} → faultIn (vp3Blocks s) ≡ Accepted → Told (eventsIn (vp3Blocks s)) k → At (head.Vp3 k) ≡ vp3Front s
-    unfolding vp3Front verdict rowOf placesOf runsOf blocksOf eventsOf
+    unfolding vp3Front verdict rowOf placesOf runsOf blocksOf cutsOf eventsOf
     vp3-sound e t = rw (b, e, counts-are (eventsIn (vp3Blocks s)) (colourOf Vp3 s) t)
 
     -- it is long enough to be gone through

@@ -9,7 +9,7 @@ use Rattle.rules.specs.Dst.{lastLabel}
 use Rattle.rules.specs.Pec.{pecLabel}
 use Rattle.rules.specs.Pes.{partAt}
 use Rattle.rules.specs.Formats.{layoutOf}
-use Rattle.rules.specs.Files.{placesOf, runsOf, blocksOf, countsOf, fileRefusals}
+use Rattle.rules.specs.Files.{placesOf, runsOf, blocksOf, cutsOf, countsOf, fileRefusals}
 use Rattle.rules.specs.Refusals.{verdict}
 use Rattle.rules.specs.declared.Format.{Format}
 use Rattle.rules.specs.declared.Format.the-variants.{Pes, Pec, Dst, Exp, Jef, Vp3}
@@ -33,7 +33,7 @@ headOf Pec s = head.Pec 8 (getD s 56 0)
 headOf Dst s = head.Dst
 headOf Exp s = head.Exp
 headOf Jef s = head.Jef (wordAt 0 s)
-headOf Vp3 s = head.Vp3 (countsOf (placesOf Vp3 s) (runsOf Vp3 s) (blocksOf Vp3 s))
+headOf Vp3 s = head.Vp3 (countsOf (placesOf Vp3 s) (runsOf Vp3 s) (blocksOf Vp3 s) (cutsOf Vp3 s))
 
 -- the label by the head
 abbrev pub labelBy : Head → List ℕ → List ℕ

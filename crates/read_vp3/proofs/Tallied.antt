@@ -204,12 +204,12 @@ module _ (t : Tally) (bytes : List ℕ) (m k : ℕ) (h : Spare t m) (l : suc (le
 
 -- ---- the counts of the answers, by the answers themselves
 
-same-counts : (k : Counts) (p r b c : ℕ) → k .points ≡ p → k .runs ≡ r → k .blocks ≡ b → k .cuts ≡ c → k ≡ record { points = p; runs = r; blocks = b; cuts = c }
+pub same-counts : (k : Counts) (p r b c : ℕ) → k .points ≡ p → k .runs ≡ r → k .blocks ≡ b → k .cuts ≡ c → k ≡ record { points = p; runs = r; blocks = b; cuts = c }
 same-counts k p r b c ep er eb ec = rw (← ep, ← er, ← eb, ← ec)
 
 module _ (es : List Event) (colour : ℕ → ℕ) where
   abbrev answers : Counts
-  answers = countsOf (places (pos 0) (pos 0) 0 es) (runs 0 es) (blocks colour 0 0 0 es)
+  answers = countsOf (places (pos 0) (pos 0) 0 es) (runs 0 es) (blocks colour 0 0 0 es) (cuts (runs 0 es) (blocks colour 0 0 0 es))
 
   pub counts-are : {k : Counts} → Told es k → k ≡ answers
   unfolding countsOf pointTotal blockTotal cuts

@@ -54,19 +54,22 @@ fn rest_stays(c: Counts, places: &[i32], runs: &[u32], blocks: &[u32]) -> bool {
     cells_stay(blocks, BLOCK_CELLS * (c.blocks as usize))
 }
 
-// The blocks of the stored answer, behind their count; and the counts.
+// The blocks of the stored answer, behind the cuts and their count; and the counts.
 fn blocks_same(told: &[u8], c: Counts, places: &[i32], runs: &[u32], blocks: &[u32]) -> bool {
     let n = BLOCK_CELLS * (c.blocks as usize);
     if blocks.len() < n {
         return false;
     }
-    if told.len() < 2 {
+    if told.len() < 4 {
         return false;
     }
-    if word(told, 0) != (c.blocks as usize) {
+    if word(told, 0) != (c.cuts as usize) {
         return false;
     }
-    let rest = part(told, 2, 65536);
+    if word(told, 2) != (c.blocks as usize) {
+        return false;
+    }
+    let rest = part(told, 4, 65536);
     let w = walked(rest, &blocks[..n], runs, places);
     if !w.same {
         return false;
@@ -77,10 +80,7 @@ fn blocks_same(told: &[u8], c: Counts, places: &[i32], runs: &[u32], blocks: &[u
     if w.cell != 2 * (c.points as usize) {
         return false;
     }
-    if w.run != (c.runs as usize) {
-        return false;
-    }
-    (c.cuts as usize) + (c.blocks as usize) == (c.runs as usize)
+    w.run == (c.runs as usize)
 }
 
 // The stored answer has no refusal, and label, blocks and counts are the same.

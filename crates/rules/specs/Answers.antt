@@ -55,7 +55,7 @@ blocks colour k m n (stitch dx dy ∷ es) = blocks colour k (begunAfter n m) (po
 blocks colour k m n (jump dx dy ∷ es) = blocks colour k m 0 es
 blocks colour k m n (change dx dy ∷ es) = blockOf colour k m ++ blocks colour (suc k) 0 0 es
 
--- the counts: points, runs, blocks listed, and cuts: runs less blocks listed
+-- the counts: points, runs, blocks listed, and the cuts of every format but DST: runs less blocks listed
 unfoldable pub pointTotal : List ℤ → ℕ
 pointTotal ps = length ps / 2
 

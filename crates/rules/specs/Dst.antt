@@ -1,7 +1,7 @@
 -- DST: 512 header bytes, then records of three.
 -- A port of src/formats/dst.rs and src/formats/read.rs of zigzag, changed.
-use Prim.Native.Nat.{ℕ, _+_, _-_, _*_, _/_, _%_, _^_}
-use mathlib.Core.Bool.{Bool, _&&_}
+use Prim.Native.Nat.{ℕ, suc, _+_, _-_, _*_, _/_, _%_, _^_}
+use mathlib.Core.Bool.{Bool, true, false, _&&_}
 use mathlib.Core.List.{List, [], _∷_, _++_}
 use lib.IntN.{ℤ, pos, negℤ, natAbs, _+ℤ_, _-ℤ_}
 use lib.Signed.{ltZ, nonNeg}
@@ -12,7 +12,7 @@ use Rattle.rules.specs.Vocabulary.{pick, count, joined, right, padded}
 use Rattle.rules.specs.Limits.{dstHeader}
 use Rattle.rules.specs.Lists.{opOf, isChange, isTrim, written, lastX, lastY, minX, minY, maxX, maxY, dstName}
 use Rattle.rules.specs.Charts.{color}
-use Rattle.rules.specs.Records.{events}
+use Rattle.rules.specs.Records.{Event, stitch, jump, change, events}
 use Rattle.rules.specs.Text.{trimmed, linesOf, begins}
 use Rattle.rules.specs.Layout.{Layout, shadeAt}
 use Rattle.rules.specs.declared.Cmd.{Cmd}
@@ -61,6 +61,34 @@ dstFirst [] = Finish
 dstFirst (b₀ ∷ []) = Finish
 dstFirst (b₀ ∷ b₁ ∷ []) = Finish
 dstFirst (b₀ ∷ b₁ ∷ b₂ ∷ rest) = dstRecord b₂ (dstX b₀ b₁ b₂) (dstY b₀ b₁ b₂)
+
+-- ---- reading: cuts
+
+-- the jumps in a row that come first
+unfoldable pub jumpsFirst : List Event → ℕ
+jumpsFirst [] = 0
+jumpsFirst (stitch dx dy ∷ es) = 0
+jumpsFirst (jump dx dy ∷ es) = suc (jumpsFirst es)
+jumpsFirst (change dx dy ∷ es) = 0
+
+-- a stitch comes next, at once or behind such a row: it is of the same block, since a colour change ends the row
+unfoldable pub stitchNext : List Event → Bool
+stitchNext [] = false
+stitchNext (stitch dx dy ∷ es) = true
+stitchNext (jump dx dy ∷ es) = stitchNext es
+stitchNext (change dx dy ∷ es) = false
+
+-- A machine cuts only after three or more jump records in a row between two stitches of the same block; these come behind the first of
+-- the two.
+unfoldable pub cutNext : List Event → Bool
+cutNext es = leb 3 (jumpsFirst es) && stitchNext es
+
+-- The count is the number of such rows, however long.
+unfoldable pub dstCuts : List Event → ℕ
+dstCuts [] = 0
+dstCuts (stitch dx dy ∷ es) = pick (cutNext es) 1 0 + dstCuts es
+dstCuts (jump dx dy ∷ es) = dstCuts es
+dstCuts (change dx dy ∷ es) = dstCuts es
 
 -- ---- reading: the header's lines
 
@@ -205,6 +233,7 @@ dstLayout = record {
   greatest = pos 121;
   refusals = λ s. (FileTooShort, ltb (length s) dstHeader) ∷ [];
   events = λ s. events dstFirst (drop dstHeader s);
+  cuts = λ rs bs es. dstCuts es;
   label = λ s. trimmed (lastLabel [] (linesOf (take dstHeader s)));
   stored = λ s. shadeAt (lineColors (linesOf (take dstHeader s)));
 }

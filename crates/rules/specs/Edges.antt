@@ -19,7 +19,7 @@ use Rattle.rules.specs.Text.{wordAt, blank, trimStart, beforeEnd, trimEn
 use Rattle.rules.specs.Layout.{shadeAt, fromChart}
 use Rattle.rules.specs.Dst.{bit, weigh, dstX, dstY, under, dstRecord, dstFirst, lastLabel, hexDigit, hexPair, hexColor, sixDigits}
 use Rattle.rules.specs.Dst.{dropHashes, beforeComma, lineColor, addColor, lineColors, digit, rest, z27, z9, z3, z1, pair, dstBytes}
-use Rattle.rules.specs.Dst.{dstCmd, line, signedRight, recordCount, dstText, dstFile}
+use Rattle.rules.specs.Dst.{dstCmd, line, signedRight, recordCount, dstText, dstFile, jumpsFirst, stitchNext, cutNext, dstCuts}
 use Rattle.rules.specs.Thumbnails.{atLeastOne, lesser, floorOf, within, pixel, painted, marked, drawn, atFront, colorBlocks, icons}
 use Rattle.rules.specs.Pec.{longAxis, axisOf, afterAxis, bothAxes, starts, pecChange, pecFirst, pecEvents, pecLabel, pecEntry, pecStored}
 use Rattle.rules.specs.Pec.{noCount, wide, pecValue, pecStart, pecNext, pause, pecCmd, pecStitches, distinct, give, givenTo, foundOr}
@@ -34,9 +34,9 @@ use Rattle.rules.specs.Refusals.{numberOf, lower, named, namedIn, extens
 use Rattle.rules.specs.Refusals.{moves, moved, leastStep, greatestStep, stepIn, stepsPast, stepTooLong, verdict, listRefusals}
 use Rattle.rules.specs.Answers.{pointsAfter, startOf, places, runOf, runs, blockOf, begunAfter, blocks, pointTotal, blockTotal, cuts}
 use Rattle.rules.specs.Files.{fileOf, eventsOf, labelOf, stored, defaults, colorNumber, orDefault, colourOf, placesOf, runsOf}
-use Rattle.rules.specs.Files.{blocksOf, fileRefusals, noRoom, fileVerdict, readVerdict, placesTold, runsTold, blocksTold, countsOf}
-use Rattle.rules.specs.Files.{readAnswer, readNumber, readCounts, filled, fileTold, writeVerdict, writeAnswer, writeNumber}
-use Rattle.rules.specs.Files.{writeLength, labelUnder, labelTold}
+use Rattle.rules.specs.Files.{blocksOf, cutsOf, fileRefusals, noRoom, fileVerdict, readVerdict, placesTold, runsTold, blocksTold}
+use Rattle.rules.specs.Files.{cutsTold, countsOf, readAnswer, readNumber, readCounts, filled, fileTold, writeVerdict, writeAnswer}
+use Rattle.rules.specs.Files.{writeNumber, writeLength, labelUnder, labelTold}
 use Rattle.rules.specs.declared.Extension.{Extension}
 use Rattle.rules.specs.declared.Format.{Format}
 use Rattle.rules.specs.declared.Format.the-variants.{Pes, Pec, Dst, Exp, Jef}
@@ -81,7 +81,7 @@ found (reads f s blocks runs places) = reading (blocksOf f s) (runsOf f s) (plac
 found (labelled ext s label) = cells (labelTold (extensionOf ext) s)
 found (toldByRead ext s n m k answer) =
     let e : Extension = extensionOf ext in
-    cells (readTold (readAnswer (readVerdict e s n m k) (countsOf (placesTold e s) (runsTold e s) (blocksTold e s))))
+    cells (readTold (readAnswer (readVerdict e s n m k) (countsOf (placesTold e s) (runsTold e s) (blocksTold e s) (cutsTold e s))))
 found (leaves ext s lent after) =
     cells (filled (readVerdict (extensionOf ext) s 100 (length lent) 100) (runsTold (extensionOf ext) s) lent)
 found (writes f name dxs dys kinds threads i n part) =
@@ -466,9 +466,40 @@ edges =
     ∷ toldByRead (0x64 ∷ 0x73 ∷ 0x74 ∷ []) (replicate 512 0x20 ++ []) 0 0 0 (0 ∷ 0 ∷ 0 ∷ 0 ∷ 0 ∷ [])
     -- reading: an empty EXP
     ∷ toldByRead (0x65 ∷ 0x78 ∷ 0x70 ∷ []) [] 0 0 0 (0 ∷ 0 ∷ 0 ∷ 0 ∷ 0 ∷ [])
-    -- reading: cuts are runs less blocks listed; an empty block is not
+    -- reading: cuts of every format but DST are runs less blocks listed; an empty block is not
     ∷ toldByRead (0x65 ∷ 0x78 ∷ 0x70 ∷ []) (0x01 ∷ 0x00 ∷ 0x02 ∷ 0x00 ∷ 0x80 ∷ 0x80 ∷ 0x07 ∷ 0x00 ∷ 0x03 ∷ 0x00 ∷ 0x80 ∷ 0x01 ∷ 0x00 ∷ 0x00
     ∷ 0x80 ∷ 0x01 ∷ 0x00 ∷ 0x00 ∷ 0x04 ∷ 0x00 ∷ []) 100 100 100 (0 ∷ 7 ∷ 3 ∷ 2 ∷ 1 ∷ [])
+    -- reading: DST: two jumps between two stitches are no cut
+    ∷ toldByRead (0x64 ∷ 0x73 ∷ 0x74 ∷ []) (replicate 512 0x20 ++ 0x01 ∷ 0x00 ∷ 0x03 ∷ 0x00 ∷ 0x00 ∷ 0x83 ∷ 0x80 ∷ 0x00 ∷ 0x83 ∷ 0x01 ∷
+    0x00 ∷ 0x03 ∷ []) 100 100 100 (0 ∷ 4 ∷ 2 ∷ 1 ∷ 0 ∷ [])
+    -- reading: DST: three jumps are one
+    ∷ toldByRead (0x64 ∷ 0x73 ∷ 0x74 ∷ []) (replicate 512 0x20 ++ 0x01 ∷ 0x00 ∷ 0x03 ∷ 0x80 ∷ 0x00 ∷ 0x83 ∷ 0x00 ∷ 0x00 ∷ 0x83 ∷ 0x00 ∷
+    0x00 ∷ 0x83 ∷ 0x01 ∷ 0x00 ∷ 0x03 ∷ []) 100 100 100 (0 ∷ 4 ∷ 2 ∷ 1 ∷ 1 ∷ [])
+    -- reading: DST: six jumps are one
+    ∷ toldByRead (0x64 ∷ 0x73 ∷ 0x74 ∷ []) (replicate 512 0x20 ++ 0x01 ∷ 0x00 ∷ 0x03 ∷ 0x00 ∷ 0x00 ∷ 0x83 ∷ 0x00 ∷ 0x00 ∷ 0x83 ∷ 0x80 ∷
+    0x00 ∷ 0x83 ∷ 0x80 ∷ 0x00 ∷ 0x83 ∷ 0x00 ∷ 0x00 ∷ 0x83 ∷ 0x00 ∷ 0x00 ∷ 0x83 ∷ 0x00 ∷ 0x00 ∷ 0x03 ∷ []) 100 100 100 (0 ∷ 4 ∷ 2 ∷ 1 ∷ 1 ∷
+    [])
+    -- reading: DST: jumps that a stitch parts, though of no length, are two rows
+    ∷ toldByRead (0x64 ∷ 0x73 ∷ 0x74 ∷ []) (replicate 512 0x20 ++ 0x01 ∷ 0x00 ∷ 0x03 ∷ 0x80 ∷ 0x00 ∷ 0x83 ∷ 0x80 ∷ 0x00 ∷ 0x83 ∷ 0x00 ∷
+    0x00 ∷ 0x03 ∷ 0x80 ∷ 0x00 ∷ 0x83 ∷ 0x80 ∷ 0x00 ∷ 0x83 ∷ 0x01 ∷ 0x00 ∷ 0x03 ∷ []) 100 100 100 (0 ∷ 6 ∷ 3 ∷ 1 ∷ 0 ∷ [])
+    -- reading: DST: two rows in one block, one in the next
+    ∷ toldByRead (0x64 ∷ 0x73 ∷ 0x74 ∷ []) (replicate 512 0x20 ++ 0x01 ∷ 0x00 ∷ 0x03 ∷ 0x00 ∷ 0x00 ∷ 0x83 ∷ 0x00 ∷ 0x00 ∷ 0x83 ∷ 0x00 ∷
+    0x00 ∷ 0x83 ∷ 0x01 ∷ 0x00 ∷ 0x03 ∷ 0x80 ∷ 0x00 ∷ 0x83 ∷ 0x80 ∷ 0x00 ∷ 0x83 ∷ 0x80 ∷ 0x00 ∷ 0x83 ∷ 0x80 ∷ 0x00 ∷ 0x83 ∷ 0x01 ∷ 0x00 ∷
+    0x03 ∷ 0x00 ∷ 0x00 ∷ 0xC3 ∷ 0x01 ∷ 0x00 ∷ 0x03 ∷ 0x00 ∷ 0x00 ∷ 0x83 ∷ 0x00 ∷ 0x00 ∷ 0x83 ∷ 0x00 ∷ 0x00 ∷ 0x83 ∷ 0x00 ∷ 0x00 ∷ 0x03 ∷
+    []) 100 100 100 (0 ∷ 10 ∷ 5 ∷ 2 ∷ 3 ∷ [])
+    -- reading: DST: a colour change ends a row
+    ∷ toldByRead (0x64 ∷ 0x73 ∷ 0x74 ∷ []) (replicate 512 0x20 ++ 0x01 ∷ 0x00 ∷ 0x03 ∷ 0x00 ∷ 0x00 ∷ 0x83 ∷ 0x00 ∷ 0x00 ∷ 0x83 ∷ 0x00 ∷
+    0x00 ∷ 0x83 ∷ 0x00 ∷ 0x00 ∷ 0xC3 ∷ 0x01 ∷ 0x00 ∷ 0x03 ∷ []) 100 100 100 (0 ∷ 4 ∷ 2 ∷ 2 ∷ 0 ∷ [])
+    -- reading: DST: also one inside it
+    ∷ toldByRead (0x64 ∷ 0x73 ∷ 0x74 ∷ []) (replicate 512 0x20 ++ 0x01 ∷ 0x00 ∷ 0x03 ∷ 0x00 ∷ 0x00 ∷ 0x83 ∷ 0x00 ∷ 0x00 ∷ 0x83 ∷ 0x00 ∷
+    0x00 ∷ 0x83 ∷ 0x00 ∷ 0x00 ∷ 0xC3 ∷ 0x00 ∷ 0x00 ∷ 0x83 ∷ 0x00 ∷ 0x00 ∷ 0x83 ∷ 0x00 ∷ 0x00 ∷ 0x83 ∷ 0x01 ∷ 0x00 ∷ 0x03 ∷ []) 100 100 100
+    (0 ∷ 4 ∷ 2 ∷ 2 ∷ 0 ∷ [])
+    -- reading: DST: jumps before the first stitch of a block and after its last
+    ∷ toldByRead (0x64 ∷ 0x73 ∷ 0x74 ∷ []) (replicate 512 0x20 ++ 0x00 ∷ 0x00 ∷ 0x83 ∷ 0x00 ∷ 0x00 ∷ 0x83 ∷ 0x00 ∷ 0x00 ∷ 0x83 ∷ 0x01 ∷
+    0x00 ∷ 0x03 ∷ 0x00 ∷ 0x00 ∷ 0x83 ∷ 0x00 ∷ 0x00 ∷ 0x83 ∷ 0x00 ∷ 0x00 ∷ 0x83 ∷ []) 100 100 100 (0 ∷ 2 ∷ 1 ∷ 1 ∷ 0 ∷ [])
+    -- reading: DST: an end closes a row
+    ∷ toldByRead (0x64 ∷ 0x73 ∷ 0x74 ∷ []) (replicate 512 0x20 ++ 0x01 ∷ 0x00 ∷ 0x03 ∷ 0x00 ∷ 0x00 ∷ 0x83 ∷ 0x00 ∷ 0x00 ∷ 0x83 ∷ 0x00 ∷
+    0x00 ∷ 0x83 ∷ 0x00 ∷ 0x00 ∷ 0xF3 ∷ 0x01 ∷ 0x00 ∷ 0x03 ∷ []) 100 100 100 (0 ∷ 2 ∷ 1 ∷ 1 ∷ 0 ∷ [])
     -- reading: buffers just long enough
     ∷ toldByRead (0x65 ∷ 0x78 ∷ 0x70 ∷ []) (0x01 ∷ 0x00 ∷ 0x02 ∷ 0x00 ∷ []) 6 1 3 (0 ∷ 3 ∷ 1 ∷ 1 ∷ 0 ∷ [])
     -- reading: places a cell too short
@@ -926,15 +957,15 @@ unfolding edges between all any count keep next firstWhere orElse lastWhere same
     weighed distance noNearer nearest nearestIndex nearestFirst choices pecPalette jefPalette sameColor entryOf jefNearest jefChoice
     jefEntries recordThen events wordAt blank trimStart beforeEnd trimEnd trimmed cutBefore linesOf begins shadeAt fromChart bit weigh dstX dstY under
     dstRecord dstFirst lastLabel hexDigit hexPair hexColor sixDigits dropHashes beforeComma lineColor addColor lineColors digit rest z27 z9
-    z3 z1 pair dstBytes dstCmd line signedRight recordCount dstText dstFile atLeastOne lesser floorOf within pixel painted marked drawn
-    atFront colorBlocks icons longAxis axisOf afterAxis bothAxes starts pecChange pecFirst pecEvents pecLabel pecEntry pecStored noCount wide pecValue
+    z3 z1 pair dstBytes dstCmd line signedRight recordCount dstText dstFile jumpsFirst stitchNext cutNext dstCuts atLeastOne lesser floorOf
+    within pixel painted marked drawn atFront colorBlocks icons longAxis axisOf afterAxis bothAxes starts pecChange pecFirst pecEvents pecLabel pecEntry pecStored noCount wide pecValue
     pecStart pecNext pause pecCmd pecStitches distinct give givenTo foundOr uniquePalette pecColors pecHeader pecBlock pecPart pecFile
     halves matrixField threadCode runLength runX runY pesStart opens pesNext pesPoint pesOpen pesCmd pesSections sectionCount opensSection
     colorLog pesString shorts pesBlocks pesMiddle pesFile partAt two control after80 pairFirst pairOf expCmd expFile jefRecords jefCount
     jefEntry jefStored jefCmd word pointsIn pointCount jefHoop halfUp hoopEdges orOne jefTable words jefHeader jefFile numberOf lower named namedIn
     extensionOf badList outside placeOutside changes tooMany moves moved leastStep greatestStep stepIn stepsPast stepTooLong verdict
     listRefusals pointsAfter startOf places runOf runs blockOf begunAfter blocks pointTotal blockTotal cuts fileOf eventsOf labelOf stored
-    defaults colorNumber orDefault colourOf placesOf runsOf blocksOf fileRefusals noRoom fileVerdict readVerdict placesTold runsTold
-    blocksTold countsOf readAnswer readNumber readCounts filled fileTold writeVerdict writeAnswer writeNumber writeLength labelUnder
+    defaults colorNumber orDefault colourOf placesOf runsOf blocksOf cutsOf fileRefusals noRoom fileVerdict readVerdict placesTold runsTold
+    blocksTold cutsTold countsOf readAnswer readNumber readCounts filled fileTold writeVerdict writeAnswer writeNumber writeLength labelUnder
     labelTold add sub mul div neg lt ofInt ofBits round toBits
 edges-hold = (refl, (refl, (refl, (refl, (refl, (refl, (refl, (refl, (refl, (refl, (refl, (refl, (refl, (refl, (refl, tt)))))))))))))))

@@ -9,6 +9,7 @@ use Rattle.rules.specs.Vocabulary.{pick, signed, bitsOf}
 use Rattle.rules.specs.Lists.{written}
 use Rattle.rules.specs.Records.{events}
 use Rattle.rules.specs.Layout.{Layout, nothing}
+use Rattle.rules.specs.Answers.{cuts}
 use Rattle.rules.specs.declared.Cmd.{Cmd}
 use Rattle.rules.specs.declared.Op.{Op}
 use Rattle.rules.specs.declared.Op.the-variants.{Stitch, Jump, Trim, ColorChange, End}
@@ -66,6 +67,7 @@ expLayout = record {
   greatest = pos 127;
   refusals = λ s. [];
   events = events (pairFirst false);
+  cuts = λ rs bs es. cuts rs bs;
   label = λ s. [];
   stored = λ s k. nothing;
 }

@@ -13,7 +13,7 @@ use Rattle.rules.specs.Charts.{color}
 use Rattle.rules.specs.Records.{Event}
 use Rattle.rules.specs.Layout.{Stored, nothing, shade, charted}
 use Rattle.rules.specs.Formats.{layoutOf}
-use Rattle.rules.specs.Answers.{places, runs, blocks, pointTotal, blockTotal, cuts}
+use Rattle.rules.specs.Answers.{places, runs, blocks, pointTotal, blockTotal}
 use Rattle.rules.specs.declared.Cmd.{Cmd}
 use Rattle.rules.specs.declared.Color.{Color}
 use Rattle.rules.specs.declared.Counts.{Counts}
@@ -74,6 +74,9 @@ runsOf f s = runs 0 (eventsOf f s)
 unfoldable pub blocksOf : Format → List ℕ → List ℕ
 blocksOf f s = blocks (colourOf f s) 0 0 0 (eventsOf f s)
 
+unfoldable pub cutsOf : Format → List ℕ → ℕ
+cutsOf f s = layoutOf f .cuts (runsOf f s) (blocksOf f s) (eventsOf f s)
+
 -- ---- reading: refusals
 
 -- Reading checks 1, 2, those of the format, 11.
@@ -95,7 +98,7 @@ readVerdict (Of f) s n m k = verdict (fileRefusals f s ++ (BufferTooShort, noRoo
 
 -- ---- reading: what the calls give back
 
--- the three answers by extension
+-- the three answers and the cuts by extension
 unfoldable pub placesTold : Extension → List ℕ → List ℤ
 placesTold Unknown s = []
 placesTold (Of f) s = placesOf f s
@@ -108,9 +111,13 @@ unfoldable pub blocksTold : Extension → List ℕ → List ℕ
 blocksTold Unknown s = []
 blocksTold (Of f) s = blocksOf f s
 
--- points, runs, blocks listed and cuts, counted from the three answers
-unfoldable pub countsOf : List ℤ → List ℕ → List ℕ → Counts
-countsOf ps rs bs = record { points = pointTotal ps; runs = length rs; blocks = blockTotal bs; cuts = cuts rs bs }
+unfoldable pub cutsTold : Extension → List ℕ → ℕ
+cutsTold Unknown s = 0
+cutsTold (Of f) s = cutsOf f s
+
+-- points, runs and blocks listed, counted from the three answers, and the cuts
+unfoldable pub countsOf : List ℤ → List ℕ → List ℕ → ℕ → Counts
+countsOf ps rs bs n = record { points = pointTotal ps; runs = length rs; blocks = blockTotal bs; cuts = n }
 
 -- what a read answers under a verdict
 unfoldable pub readAnswer : Verdict → Counts → ReadAnswer

@@ -14,6 +14,7 @@ use Rattle.rules.specs.Choices.{jefEntries}
 use Rattle.rules.specs.Records.{events}
 use Rattle.rules.specs.Text.{wordAt}
 use Rattle.rules.specs.Layout.{Layout, Stored, nothing, fromChart}
+use Rattle.rules.specs.Answers.{cuts}
 use Rattle.rules.specs.Exp.{pairFirst, pairOf}
 use Rattle.rules.specs.declared.Cmd.{Cmd}
 use Rattle.rules.specs.declared.Color.{Color}
@@ -133,6 +134,7 @@ jefLayout = record {
   greatest = pos 127;
   refusals = λ s. (FileTooShort, ltb (length s) 4) ∷ [];
   events = λ s. events (pairFirst true) (jefRecords s);
+  cuts = λ rs bs es. cuts rs bs;
   label = λ s. [];
   stored = jefStored;
 }

@@ -30,6 +30,8 @@ pub record Layout : Type 0 where
   pub refusals : List ℕ → List (Refusal × Bool)
   -- what the records of a file do
   pub events : List ℕ → List Event
+  -- its cuts, by the runs and the blocks read and by what the records do
+  pub cuts : List ℕ → List ℕ → List Event → ℕ
   -- the label of a file
   pub label : List ℕ → List ℕ
   -- what a file stores for block k

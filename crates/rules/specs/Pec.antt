@@ -14,6 +14,7 @@ use Rattle.rules.specs.Choices.{sameColor, nearestIndex, pecPalette}
 use Rattle.rules.specs.Records.{Event, events}
 use Rattle.rules.specs.Text.{trimmed}
 use Rattle.rules.specs.Layout.{Layout, Stored, nothing, fromChart}
+use Rattle.rules.specs.Answers.{cuts}
 use Rattle.rules.specs.Thumbnails.{icons}
 use Rattle.rules.specs.declared.Cmd.{Cmd}
 use Rattle.rules.specs.declared.Color.{Color}
@@ -220,6 +221,7 @@ pecLayout = record {
   greatest = pos 2047;
   refusals = λ s. (FileTooShort, noCount 8 s) ∷ [];
   events = pecEvents 8;
+  cuts = λ rs bs es. cuts rs bs;
   label = pecLabel 8;
   stored = pecStored 8;
 }

@@ -15,6 +15,7 @@ use Rattle.rules.specs.Charts.{color}
 use Rattle.rules.specs.Choices.{nearestIndex, pecPalette}
 use Rattle.rules.specs.Text.{wordAt, begins}
 use Rattle.rules.specs.Layout.{Layout}
+use Rattle.rules.specs.Answers.{cuts}
 use Rattle.rules.specs.Pec.{foundOr, pecPart, pecEvents, pecLabel, pecStored, noCount}
 use Rattle.rules.specs.declared.Cmd.{Cmd}
 use Rattle.rules.specs.declared.Color.{Color}
@@ -184,6 +185,7 @@ pesLayout = record {
       ∷ (FileTooShort, noCount (partAt s) s)
       ∷ [];
   events = λ s. pecEvents (partAt s) s;
+  cuts = λ rs bs es. cuts rs bs;
   label = λ s. pecLabel (partAt s) s;
   stored = λ s. pecStored (partAt s) s;
 }

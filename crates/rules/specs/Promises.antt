@@ -13,7 +13,7 @@ use Rattle.rules.specs.Lists.{commands}
 use Rattle.rules.specs.Formats.{layoutOf}
 use Rattle.rules.specs.Refusals.{numberOf, listVerdict}
 use Rattle.rules.specs.Files.{fileOf, fileTold, writeVerdict, writeAnswer, writeNumber, writeLength, filled}
-use Rattle.rules.specs.Files.{placesOf, runsOf, blocksOf, placesTold, runsTold, blocksTold, countsOf}
+use Rattle.rules.specs.Files.{placesOf, runsOf, blocksOf, placesTold, runsTold, blocksTold, cutsTold, countsOf}
 use Rattle.rules.specs.Files.{fileVerdict, readVerdict, readAnswer, readNumber, readCounts, labelTold}
 use Rattle.rules.specs.Sewing.{listSewing, toldSewing, listNeedles, toldNeedles}
 use Rattle.rules.specs.declared.Cmd.{Cmd}
@@ -82,7 +82,7 @@ module _ (e : Extension) (file : List ℕ) (places : List ℤ) (runs blocks : Li
   pub record ReadOf (places′ : List ℤ) (runs′ blocks′ : List ℕ) (r : ReadAnswer) : Type 0 where
     pub answered : r ≡ readAnswer
         (readVerdict e file (length places) (length runs) (length blocks))
-        (countsOf (placesTold e file) (runsTold e file) (blocksTold e file))
+        (countsOf (placesTold e file) (runsTold e file) (blocksTold e file) (cutsTold e file))
     pub places-are : places′ ≡ filled (readVerdict e file (length places) (length runs) (length blocks)) (placesTold e file) places
     pub runs-are : runs′ ≡ filled (readVerdict e file (length places) (length runs) (length blocks)) (runsTold e file) runs
     pub blocks-are : blocks′ ≡ filled (readVerdict e file (length places) (length runs) (length blocks)) (blocksTold e file) blocks
@@ -184,7 +184,8 @@ module _ (e : Extension) (name : List ℕ) (xs ys : List ℤ) (kinds threads out
 
   -- `write_and_read`: not written, and nothing changed; or written but not read, and the file stands; or both
   pub record WroteAndRead (out′ : List ℕ) (places′ : List ℤ) (runs′ blocks′ : List ℕ) (a : RoundTripAnswer) : Type 0 where
-    pub answered : a ≡ roundTripAnswer writes reads (length theFile) (countsOf (placesTold e theFile) (runsTold e theFile) (blocksTold e theFile))
+    pub answered : a ≡ roundTripAnswer writes reads (length theFile)
+        (countsOf (placesTold e theFile) (runsTold e theFile) (blocksTold e theFile) (cutsTold e theFile))
     pub stored : out′ ≡ filled writes theFile out
     pub places-are : places′ ≡ filled (orThen writes reads) (placesTold e theFile) places
     pub runs-are : runs′ ≡ filled (orThen writes reads) (runsTold e theFile) runs

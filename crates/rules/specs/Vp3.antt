@@ -14,6 +14,7 @@ use Rattle.rules.specs.Records.{Event, stitch, jump, change}
 use Rattle.rules.specs.Text.{begins}
 use Rattle.rules.specs.Thumbnails.{colorBlocks}
 use Rattle.rules.specs.Layout.{Layout, shadeAt}
+use Rattle.rules.specs.Answers.{cuts}
 use Rattle.rules.specs.declared.Cmd.{Cmd}
 use Rattle.rules.specs.declared.Color.{Color}
 use Rattle.rules.specs.declared.Op.{Op}
@@ -356,6 +357,7 @@ vp3Layout = record {
   greatest = pos (2 * furthest);
   refusals = λ s. (BadOpening, not (begins vp3Opening s)) ∷ rowOf (faultIn (vp3Blocks s));
   events = λ s. eventsIn (vp3Blocks s);
+  cuts = λ rs bs es. cuts rs bs;
   label = λ s. [];
   stored = λ s k. shadeAt (colorsIn (vp3Blocks s)) k;
 }

@@ -17,8 +17,8 @@ use Rattle.rules.specs.Limits.{blockCells}
 use Rattle.rules.specs.Lists.{commands}
 use Rattle.rules.specs.Records.{Event, stitch, jump, change}
 use Rattle.rules.specs.Refusals.{verdict, listRefusals, listVerdict}
-use Rattle.rules.specs.Files.{fileOf, eventsOf, colourOf, placesOf, runsOf, blocksOf, readVerdict, placesTold, runsTold, blocksTold, countsOf, readAnswer, readNumber}
-use Rattle.rules.specs.Files.{readCounts, filled, fileTold, writeVerdict, writeAnswer, writeNumber, writeLength}
+use Rattle.rules.specs.Files.{fileOf, eventsOf, colourOf, placesOf, runsOf, blocksOf, cutsOf, readVerdict, placesTold, runsTold, blocksTold, cutsTold, countsOf}
+use Rattle.rules.specs.Files.{readAnswer, readNumber, readCounts, filled, fileTold, writeVerdict, writeAnswer, writeNumber, writeLength}
 use Rattle.rules.specs.Sewing.{Entry, entry, Adding, ofBlocks, ofBuffers, listSewing, fileSewing, toldSewing, Needle, needle, listNeedles, fileNeedles, toldNeedles}
 use Rattle.rules.specs.Promises.{Wrote, ReadOf, Room, KeepsJumps}
 use Rattle.rules.specs.declared.Cmd.{Cmd}
@@ -178,8 +178,8 @@ module _ (t : RoundTrip) where
   abbrev B : List ℕ
   B = blocksOf (t .format) file
 
-  is-read : t .r ≡ Read (countsOf P R B)
-  unfolding readAnswer placesTold runsTold blocksTold
+  is-read : t .r ≡ Read (countsOf P R B (cutsOf (t .format) file))
+  unfolding readAnswer placesTold runsTold blocksTold cutsTold
   is-read = reading .answered ∙ rw (read-accepts, t .named)
 
   places-are : t .ps′ ≡ P ++ drop (length P) (t .ps)

@@ -2,3 +2,4 @@ pub mod Back
 pub mod Two
 pub mod Vp3Rooms
 pub mod Rooms
+pub mod Cuts

@@ -3,7 +3,7 @@ use mathlib.Core.Path.{sym, _∙_}
 use denote.Ref.{now}
 use Rattle.read_builder.specs.Colour.{colourIn}
 use Rattle.read_passes.proofs.Bounds.{ample-fits}
-use Rattle.read.proofs.Rooms.{fits-told, given-read, given-unread, of-row, row-fits, fits-row}
+use Rattle.read.proofs.Rooms.{fits-told, given-read, given-unread, of-row, row-counts, row-fits, fits-row}
 use borrow.Author.Needs.{needs}
 use Rattle.read.proofs.read_records.Statement.{statement}
 use Rattle.read.proofs.read_records.Tie as tie
@@ -18,8 +18,8 @@ returns c =
     let w = c .before .before .before .before .before .fill .ensures in
     let at = c .before .before .before .before .before .before .before .before .before in
     let a = at .before .before .before .before .before .before .args in let c′ = colourIn (now (a .colors)) in
-    given-read c′ (of-row (w .0)) (fits-row (ample-fits (a .f) c′ (now (a .bytes)) _ _ _ (at .before .ample .ensures (at .if1 .taken)))) (w .1 .0)
-    (w .1 .1 .0) (w .1 .1 .1)
+    given-read c′ (fits-row (ample-fits (a .f) c′ (now (a .bytes)) _ _ _ (at .before .ample .ensures (at .if1 .taken))))
+    (row-counts c′ _ _ (a .f) (w .0)) (w .1 .0) (w .1 .1 .0) (w .1 .1 .1)
 
 fill-requires-2 : tie.Need-fill-requires-2
 fill-requires-2 c κs =
@@ -33,9 +33,9 @@ returns-2 : tie.Need-returns-2
 returns-2 c =
     let w = c .before .before .before .before .before .fill2 .ensures in
     let at = c .before .before .before .before .before .before .before .before .before in
-    let c′ = colourIn (now (at .before .before .before .before .before .before .before .before .before .args .colors)) in
-    given-read c′ (of-row (w .0)) (fits-told c′ (of-row (at .before .before .count .ensures)) _ _ _ (sym (at .before .has-room .ensures) ∙ at .if2 .taken))
-    (w .1 .0) (w .1 .1 .0) (w .1 .1 .1)
+    let a = at .before .before .before .before .before .before .before .before .before .args in let c′ = colourIn (now (a .colors)) in
+    given-read c′ (fits-told c′ (of-row (at .before .before .count .ensures)) _ _ _ (sym (at .before .has-room .ensures) ∙ at .if2 .taken))
+    (row-counts c′ _ _ (a .f) (w .0)) (w .1 .0) (w .1 .1 .0) (w .1 .1 .1)
 
 returns-3 : tie.Need-returns-3
 returns-3 c = given-unread (colourIn (now (c .before .before .before .before .before .before .before .before .before .args .colors)))

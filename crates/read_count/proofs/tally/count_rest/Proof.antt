@@ -3,7 +3,7 @@ use Prim.Native.Nat.{_-_}
 use native.Mathlib.Omega.{arith}
 use lib.ListN.{length}
 use Rattle.read_count.specs.Tallies.{Tallying}
-use Rattle.read_count.proofs.Laws.{tallying-small, change-small, change-fewer, tallying-done}
+use Rattle.read_count.proofs.Laws.{tallying-small, change-small, tallying-done}
 use Rattle.read_count.proofs.tally.count_rest.Statement.{statement}
 use Rattle.read_count.proofs.tally.count_rest.Tie as tie
 
@@ -15,8 +15,8 @@ abbrev μ-loop : tie.MeasureT-loop
 
 returns : tie.Need-returns Inv-loop μ-loop
 returns c =
-    let k = rw (c .before .tally-change .ensures) at (c .counts .ensures) in
-    tallying-done (c .before .before .before .loop .inv) (c .before .before .loop-test .left) (k .0) (k .1) (k .2) (k .3)
+    let k = rw (c .before .tally-change .ensures) at (c .sizes .ensures) in
+    tallying-done (c .before .before .before .loop .inv) (c .before .before .loop-test .left) (k .0) (k .1) (k .2)
 
 pub count-rest-spec : {M : Type 1} → statement M
 count-rest-spec =
@@ -25,4 +25,4 @@ count-rest-spec =
     Inv-loop μ-loop (λ c. c .before .pre) (λ c κs. (c .before .loop .inv, c .loop-test .taken))
     (λ c. omega (arith, c .before .pass .ensures .1, c .before .before .loop-test .taken)) (λ c. c .before .pass .ensures .0)
     (λ c κs. tallying-small (c .before .loop .inv))
-    (λ c κs. let g = c .before .before .loop .inv in rw (c .tally-change .ensures) (change-small g, change-fewer g)) returns)
+    (λ c κs. rw (c .tally-change .ensures) (change-small (c .before .before .loop .inv))) returns)
