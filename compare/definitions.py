@@ -94,7 +94,7 @@ def read(data):
     verdict = "Refused " + REFUSALS[refusal] if refusal else "Accepted"
     claims = ["fileVerdict (extensionOf %s) %s ≡ %s" % (numbers(ext), numbers(file), verdict)]
     if not refusal:
-        label, places, runs, blocks = c.text("B"), [], [], []
+        label, cuts, places, runs, blocks = c.text("B"), c.take("H"), [], [], []
         for _ in range(c.take("H")):
             number, r, g, b, count = c.take("HBBBH")
             blocks += [number, 65536 * r + 256 * g + b, count]
@@ -103,6 +103,7 @@ def read(data):
                 places += [v for _ in range(runs[-1]) for v in c.take("ii")]
         fmt = ext.decode().lower().capitalize()
         answers = (("labelOf", numbers(label)), ("placesOf", integers(places)), ("runsOf", numbers(runs)), ("blocksOf", numbers(blocks)))
+        answers += (("cutsOf", str(cuts)),)
         claims += ["%s %s %s ≡ %s" % (what, fmt, numbers(file), answer) for what, answer in answers]
     return ext.lower(), len(file), claims
 
@@ -127,8 +128,11 @@ def main():
         module = os.path.basename(path)[:-5]
         found = re.findall(r"(?m)^unfoldable pub (\S+)", open(path, encoding="utf-8").read())
         if found and module not in ("Samples", "Vectors", "Edges"):
-            uses.append("use Rattle.rules.specs.%s.{%s}" % (module, ", ".join(found)))
-            names += found
+            # A name that another module has too comes in under one of its own.
+            own = [name if name not in names else name + module for name in found]
+            shown = [name if name == as_ else "%s as %s" % (name, as_) for name, as_ in zip(found, own)]
+            uses.append("use Rattle.rules.specs.%s.{%s}" % (module, ", ".join(shown)))
+            names += own
     ieee = ["add", "sub", "mul", "div", "neg", "lt", "ofInt", "ofBits", "round", "toBits"]
     uses += ["use mathlib.Core.Path.{_≡_, refl}", "use mathlib.Core.List.{List, [], _∷_}", "use lib.IntN.{ℤ, pos, negsuc}", "use lib.Ieee.{%s}" % ", ".join(ieee)]
     for kind, variants in (("Format", FORMATS), ("Verdict", ["Accepted", "Refused"]), ("Refusal", sorted(REFUSALS.values()))):

@@ -1,4 +1,5 @@
 -- By the third byte.
+use Prim.Native.Nat.{_+_, _≤_}
 use mathlib.Core.Path.{_≡_, refl}
 use native.Mathlib.Omega.{arith}
 use denote.Ref.{now}
@@ -25,6 +26,10 @@ triple c =
     let s = start c in
     let u = c .before .before .before .dst-dx in
     record { room = omega (arith, s .pre .1 .0); dx = reads (u .ok) (u .ensures); dy = reads (c .dst-dy .ok) (c .dst-dy .ensures) }
+
+-- it ends in the bytes
+inside : (c : tie.After-dst-dy) → start c .args .at + 3 ≤ 2097152
+inside c = let p = start c .pre .1 in omega (arith, p .0, p .1 .0 .short)
 
 sews : (c : tie.Then1) → let k = c .before in let a = start k .args in
     firstOf Dst (drop (a .at) (now (a .bytes))) ≡ StitchBy (read (k .before .before .before .dst-dx .result)) (read (k .dst-dy .result)) 3
@@ -102,10 +107,13 @@ turn-triple-spec =
     (λ c. search needs) (λ c. search needs) (λ c. search needs) (λ c. search needs) (λ c. search needs) (λ c κs. search needs)
     (λ c. search needs) (λ c. search needs) (λ c. search needs) (λ c κs. search needs)
     (λ c κs. can-sew (start (c .before .before .before .before) .pre .1 .1 .0) (sews (c .before .before .before))) cuts-after-stitch-requires
-    (λ c. let p = start (c .before .before .before .before .before .before .before) .pre .1 in omega (arith, p .0, p .1 .0 .short)) (λ c κs. search needs) (λ c. search needs) returns
+    (λ c. omega (arith, inside (c .before .before .before .before .before .before .before))) (λ c κs. search needs)
+    (λ c. search needs) returns
     (λ c κs. can-sew (start (c .before .before .before .before) .pre .1 .1 .0) (sews (c .before .before .before)))
-    (λ c. let p = start (c .before .before .before .before .before .before) .pre .1 in omega (arith, p .0, p .1 .0 .short)) (λ c κs. search needs) (λ c. search needs) returns-2
+    (λ c. omega (arith, inside (c .before .before .before .before .before .before))) (λ c κs. search needs) (λ c. search needs) returns-2
     (λ c κs. search needs) returns-3 change-requires
-    (λ c. let p = start (c .before .before .before .before .before .before .before .before .before .before) .pre .1 in omega (arith, p .0, p .1 .0 .short)) (λ c κs. search needs) (λ c. search needs) (λ c. search needs) returns-4
+    (λ c. omega (arith, inside (c .before .before .before .before .before .before .before .before .before .before))) (λ c κs. search needs)
+    (λ c. search needs) (λ c. search needs) returns-4
     (λ c κs. can-hop (start (c .before .before .before .before) .pre .1 .1 .0) (jumps (c .before))) since-after-jump-requires
-    (λ c. let p = start (c .before .before .before .before .before .before .before .before) .pre .1 in omega (arith, p .0, p .1 .0 .short)) (λ c κs. search needs) (λ c. search needs) returns-5)
+    (λ c. omega (arith, inside (c .before .before .before .before .before .before .before .before))) (λ c κs. search needs)
+    (λ c. search needs) returns-5)
