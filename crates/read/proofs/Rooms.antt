@@ -1,5 +1,5 @@
 -- Refusal 11 by the sizes, and what a call gives back with and without it. Assumes nothing.
-use Prim.Native.Nat.{ℕ, _+_, _*_, _≤_}
+use Prim.Native.Nat.{ℕ, _*_, _≤_}
 use mathlib.Core.Path.{_≡_, sym}
 use mathlib.Core.Bool.{true, false, _&&_}
 use mathlib.Core.List.{List}
@@ -9,7 +9,6 @@ use lib.Dec.{leb}
 use lib.IntN.{ℤ, pos}
 use lib.ListN.{length}
 use Rattle.rules.specs.Answers.{places, runs, blocks, pointTotal, blockTotal}
-use Rattle.rules.specs.Dst.{dstCuts}
 use Rattle.rules.specs.Limits.{blockCells}
 use Rattle.rules.specs.Files.{countsOf, readAnswer, filled}
 use Rattle.rules.specs.Records.{Event, events}
@@ -22,12 +21,11 @@ use Rattle.rules.specs.declared.Verdict.the-variants.{Accepted, Refused}
 use Rattle.laws.specs.Tests.{by-test, false-true, and-left, and-right}
 use Rattle.read_records.specs.Firsts.{firstOf}
 use Rattle.read_records.specs.declared.Row.{Row}
-use Rattle.read_records.specs.declared.Row.the-variants.{Pec, Dst, Exp, Jef}
 use Rattle.read_passes.specs.Told as passes
 use Rattle.read_passes.specs.declared.Sizes.{Sizes}
-use Rattle.read_vp3.proofs.Tallied.{same-counts, counts-are}
+use Rattle.read_vp3.proofs.Tallied.{same-counts}
 use Rattle.read_vp3.specs.Walks.{Told}
-use Rattle.read.specs.Answered.{roomFor, roomVerdict, Given, cutsIn}
+use Rattle.read.specs.Answered.{roomFor, roomVerdict, Given}
 
 -- refusal 11 does not hold
 room : (ps : List ℤ) (rs bs : List ℕ) (np nr nb : ℕ) → length ps ≤ np → length rs ≤ nr → length bs ≤ nb → roomVerdict ps rs bs np nr nb ≡ Accepted
@@ -103,24 +101,14 @@ of-vp3 t = record { points = t .points; runs = t .runs; blocks = t .blocks }
 pub of-row : {first : List ℕ → Record} {bytes : List ℕ} {z : Sizes} → passes.Sized first bytes z → Sized (events first bytes) z
 of-row t = record { points = t .points; runs = t .runs; blocks = t .blocks }
 
--- its counts are those of the answers, with its own cuts
-module _ (c : ℕ → ℕ) (bytes : List ℕ) (k : Counts) where
-  abbrev Counted : Row → Type 0
-  Counted f = let first = firstOf f in let rs = passes.runsIn first bytes in let bs = passes.blocksIn c first bytes in
-      k ≡ countsOf (passes.placesIn first bytes) rs bs (cutsIn f rs bs (events first bytes))
-
-  plainly : {first : List ℕ → Record} → passes.Sized first bytes (passes.sizesOf k) → k .cuts + k .blocks ≡ k .runs → Told (events first bytes) k
-  plainly s e = record { points = s .points; runs = s .runs; blocks = s .blocks; cuts = e }
-
-  by-rows : passes.Sized (firstOf Dst) bytes (passes.sizesOf k) → k .cuts ≡ dstCuts (events (firstOf Dst) bytes) → Counted Dst
-  unfolding countsOf pointTotal blockTotal
-  by-rows s e = same-counts k _ _ _ _ (omega (arith, s .points)) (omega (arith, s .runs)) (omega (arith, s .blocks c)) e
-
-  pub row-counts : (f : Row) → passes.Told f bytes k → Counted f
-  row-counts Pec t = counts-are _ c (plainly (t .sizes) (t .cuts))
-  row-counts Dst t = by-rows (t .sizes) (t .cuts)
-  row-counts Exp t = counts-are _ c (plainly (t .sizes) (t .cuts))
-  row-counts Jef t = counts-are _ c (plainly (t .sizes) (t .cuts))
+-- its counts are those of the answers
+pub row-counts : (c : ℕ → ℕ) (bytes : List ℕ) (k : Counts) (f : Row) → passes.Told f bytes k
+    → let rs = passes.runsIn (firstOf f) bytes in let bs = passes.blocksIn c (firstOf f) bytes in
+    k ≡ countsOf (passes.placesIn (firstOf f) bytes) rs bs (passes.cutsIn f rs bs (events (firstOf f) bytes))
+unfolding countsOf pointTotal blockTotal
+row-counts c bytes k f t =
+    let s = t .sizes in
+    same-counts k _ _ _ _ (omega (arith, s .points)) (omega (arith, s .runs)) (omega (arith, s .blocks c)) (t .cuts c)
 
 pub row-fits : {first : List ℕ → Record} {bytes : List ℕ} {c : ℕ → ℕ} {np nr nb : ℕ} → Fits (events first bytes) c np nr nb → passes.Fits c first bytes np nr nb
 row-fits h = record { places = h .places; runs = h .runs; blocks = h .blocks }

@@ -16,7 +16,7 @@ use Rattle.rules.specs.Vp3.{eventsIn, colorsIn, vp3Blocks}
 use Rattle.rules.specs.Files.{placesOf, runsOf, blocksOf, cutsOf, orDefault, countsOf, readAnswer, filled}
 use Rattle.rules.specs.Text.{linesOf, wordAt}
 use Rattle.rules.specs.Layout.{Stored, nothing, shadeAt}
-use Rattle.rules.specs.Dst.{lineColors, dstCuts}
+use Rattle.rules.specs.Dst.{lineColors}
 use Rattle.rules.specs.Pec.{pecStored}
 use Rattle.rules.specs.Jef.{jefRecords, jefStored}
 use Rattle.read_records.specs.Firsts.{firstOf}
@@ -30,6 +30,7 @@ use Rattle.rules.specs.declared.Refusal.the-variants.{BufferTooShort}
 use Rattle.rules.specs.declared.Verdict.{Verdict}
 use Rattle.rules.specs.declared.Verdict.the-variants.{Accepted}
 use Rattle.rules.specs.declared.Format.the-variants.{Vp3}
+use Rattle.read_passes.specs.Told.{cutsIn}
 use Rattle.read_passes.specs.declared.Sizes.{Sizes}
 use Rattle.read_refusals.specs.declared.Head.{Head}
 use Rattle.read_refusals.specs.declared.Head.the-variants as head
@@ -57,11 +58,11 @@ eventsBy (head.Jef offset) s = events (firstOf Jef) (jefRecords s)
 eventsBy (head.Vp3 counts) s = eventsIn (vp3Blocks s)
 
 abbrev pub cutsBy : Head → List ℕ → List ℕ → List Event → ℕ
-cutsBy (head.Pec start count) rs bs es = cuts rs bs
-cutsBy head.Dst rs bs es = dstCuts es
-cutsBy head.Exp rs bs es = cuts rs bs
-cutsBy (head.Jef offset) rs bs es = cuts rs bs
-cutsBy (head.Vp3 counts) rs bs es = cuts rs bs
+cutsBy (head.Pec start count) = cutsIn Pec
+cutsBy head.Dst = cutsIn Dst
+cutsBy head.Exp = cutsIn Exp
+cutsBy (head.Jef offset) = cutsIn Jef
+cutsBy (head.Vp3 counts) = λ rs bs es. cuts rs bs
 
 abbrev pub storedBy : Head → List ℕ → ℕ → Stored
 storedBy (head.Pec start count) s k = pecStored start s k
@@ -91,14 +92,7 @@ abbrev pub EventsGiven : (ℕ → ℕ) → (List ℕ → List ℕ → List Event
 EventsGiven c k es P P′ R R′ B B′ r =
     Given (places (pos 0) (pos 0) 0 es) P P′ (runs 0 es) R R′ (blocks c 0 0 0 es) B B′ (k (runs 0 es) (blocks c 0 0 0 es) es) r
 
--- the cuts of a row of records
-abbrev pub cutsIn : Row → List ℕ → List ℕ → List Event → ℕ
-cutsIn Pec rs bs es = cuts rs bs
-cutsIn Dst rs bs es = dstCuts es
-cutsIn Exp rs bs es = cuts rs bs
-cutsIn Jef rs bs es = cuts rs bs
-
--- the answers of the records in bytes
+-- those of the records in bytes
 abbrev pub RecordsGiven : (ℕ → ℕ) → Row → List ℕ → List ℤ → List ℤ → List ℕ → List ℕ → List ℕ → List ℕ → ReadAnswer → Type 0
 RecordsGiven c f bytes P P′ R R′ B B′ r = EventsGiven c (cutsIn f) (events (firstOf f) bytes) P P′ R R′ B B′ r
 

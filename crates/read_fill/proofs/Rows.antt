@@ -7,9 +7,11 @@ use native.Mathlib.Omega.{arith}
 use lib.IntN.{ℤ}
 use lib.ListN.{length, drop, length-drop}
 use lib.Seq.{drop-drop}
+use Rattle.rules.specs.Answers.{blockTotal, cuts}
 use Rattle.rules.specs.Dst.{dstCuts}
 use Rattle.rules.specs.Records.{Event, stitch, jump, change, events}
 use Rattle.rules.specs.declared.Counts.{Counts}
+use Rattle.rules.specs.declared.Record.{Record}
 use Rattle.rules.specs.declared.Record.the-variants.{StitchBy, JumpBy, ChangeBy, Finish}
 use Rattle.laws.specs.Reading.{read-stitch, read-jump, read-change, read-finish}
 use Rattle.read_records.proofs.Dsts.{dst-short}
@@ -22,7 +24,7 @@ use Rattle.read_builder.specs.Builders.{origin, jumped, changed}
 use Rattle.read_builder.specs.Cuts.{cutsLeft, Kept}
 use Rattle.read_builder.specs.declared.Builder.{Builder}
 use Rattle.read_passes.proofs.Found.{in-dst}
-use Rattle.read_passes.specs.Told.{Sized, sizesOf, Told}
+use Rattle.read_passes.specs.Told.{runsIn, blocksIn, Sized, sizesOf, Told}
 use Rattle.read_passes.specs.Walks.{eventsFrom}
 use Rattle.read_fill.specs.Cutting.{Cutting, RowsOf, withRows}
 
@@ -88,9 +90,15 @@ module _ {bytes : List ℕ} {b : Builder} {s n at : ℕ} (g : Cutting bytes b s 
 
 -- ---- all formats
 
+-- runs less blocks
+plain-cuts : {first : List ℕ → Record} {bytes : List ℕ} (c : Counts) → Sized first bytes (sizesOf c) → c .cuts + c .blocks ≡ c .runs
+    → (colour : ℕ → ℕ) → c .cuts ≡ cuts (runsIn first bytes) (blocksIn colour first bytes)
+unfolding cuts blockTotal
+plain-cuts c s e colour = omega (arith, e, s .runs, s .blocks colour)
+
 pub told-with : (f : Row) (bytes : List ℕ) (c : Counts) (n : ℕ) → Sized (firstOf f) bytes (sizesOf c) → c .cuts + c .blocks ≡ c .runs
     → RowsOf f bytes n → Told f bytes (withRows f c n)
-told-with Pec bytes c n s e w = record { sizes = s; cuts = e }
-told-with Dst bytes c n s e w = record { sizes = s; cuts = w }
-told-with Exp bytes c n s e w = record { sizes = s; cuts = e }
-told-with Jef bytes c n s e w = record { sizes = s; cuts = e }
+told-with Pec bytes c n s e w = record { sizes = s; cuts = plain-cuts c s e }
+told-with Dst bytes c n s e w = record { sizes = s; cuts = λ colour. w }
+told-with Exp bytes c n s e w = record { sizes = s; cuts = plain-cuts c s e }
+told-with Jef bytes c n s e w = record { sizes = s; cuts = plain-cuts c s e }

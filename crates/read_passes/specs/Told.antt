@@ -4,8 +4,8 @@ use mathlib.Core.Path.{_≡_}
 use mathlib.Core.List.{List}
 use lib.IntN.{ℤ, pos}
 use lib.ListN.{length}
-use Rattle.rules.specs.Records.{events}
-use Rattle.rules.specs.Answers.{places, runs, blocks}
+use Rattle.rules.specs.Records.{Event, events}
+use Rattle.rules.specs.Answers.{places, runs, blocks, cuts}
 use Rattle.rules.specs.Limits.{blockCells}
 use Rattle.rules.specs.Dst.{dstCuts}
 use Rattle.rules.specs.declared.Counts.{Counts}
@@ -33,17 +33,17 @@ pub record Sized (first : List ℕ → Record) (bytes : List ℕ) (z : Sizes) : 
 abbrev pub sizesOf : Counts → Sizes
 sizesOf c = record { points = c .points; runs = c .runs; blocks = c .blocks }
 
--- c has the cuts of the records in bytes: runs less blocks, but in DST the rows of jumps that the rules count
-abbrev pub CutsOf : Row → List ℕ → Counts → Type 0
-CutsOf Pec bytes c = c .cuts + c .blocks ≡ c .runs
-CutsOf Dst bytes c = c .cuts ≡ dstCuts (events (firstOf Dst) bytes)
-CutsOf Exp bytes c = c .cuts + c .blocks ≡ c .runs
-CutsOf Jef bytes c = c .cuts + c .blocks ≡ c .runs
+-- the cuts of a row of records, by runs, blocks and events
+abbrev pub cutsIn : Row → List ℕ → List ℕ → List Event → ℕ
+cutsIn Pec rs bs es = cuts rs bs
+cutsIn Dst rs bs es = dstCuts es
+cutsIn Exp rs bs es = cuts rs bs
+cutsIn Jef rs bs es = cuts rs bs
 
--- c are the counts of the answers
+-- c are the counts of the answers, whatever the colours
 pub record Told (f : Row) (bytes : List ℕ) (c : Counts) : Type 0 where
   pub sizes : Sized (firstOf f) bytes (sizesOf c)
-  pub cuts : CutsOf f bytes c
+  pub cuts : (colour : ℕ → ℕ) → c .cuts ≡ cutsIn f (runsIn (firstOf f) bytes) (blocksIn colour (firstOf f) bytes) (events (firstOf f) bytes)
 
 -- the answers fit buffers of np, nr and nb cells
 pub record Fits (colour : ℕ → ℕ) (first : List ℕ → Record) (bytes : List ℕ) (np nr nb : ℕ) : Type 0 where
