@@ -21,7 +21,7 @@ extern "C" {
 #endif
 
 /* Raised with each change of the interface or of what the functions answer; CHANGELOG.md has what changed. */
-#define STITCH_BOX_VERSION "0.3.0"
+#define STITCH_BOX_VERSION "0.4.0"
 
 /* What a function answers: 0, or the number of a refusal. A number comes if its condition holds and that of none before it in the order of
  * checking. Reading checks 1, 2, 3, 4, 5, 11, the count byte (4) after 5; in a VP3 4 and 12 come after 3, in order of place in the file.

@@ -2,7 +2,7 @@
 //! ones and random ones. Labels of PEC and headers of DST stay below 128,
 //! where document 01 holds the rules and the published Rust for equal.
 
-use crate::inputs::{jump_rows, lists, vp3_files};
+use crate::inputs::{bit_pairs, jump_rows, lists, vp3_files};
 use crate::oracle::{self, Format};
 use crate::random::Random;
 
@@ -22,6 +22,7 @@ pub fn all(seed: u64) -> Vec<File> {
     files.extend(dst(&mut random));
     files.extend(written(&mut random));
     files.extend(jump_rows::boundary(seed));
+    files.extend(bit_pairs::boundary());
     files.retain(in_domain);
     files
 }

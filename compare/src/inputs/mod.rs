@@ -1,6 +1,7 @@
 //! What is asked: lists to write, files to read, questions to single functions, and
 //! document 01's samples.
 
+pub mod bit_pairs;
 pub mod boundary_lists;
 pub mod faults;
 pub mod faulty_lists;

@@ -12,15 +12,15 @@ use read_passes::fill_rest;
 use read_records::Row;
 use read_records::triples::dst_dx;
 use read_records::triples::dst_dy;
-use read_records::triples::x_steps;
-use read_records::triples::y_steps;
+use read_records::triples::dst_steps;
 ghost use mathlib.Core.Path.{_≡_};
+ghost use mathlib.Core.Bool.{true, false};
 ghost use Prim.Native.Nat.{ℕ, _+_, _≤_, _<_};
 ghost use lib.ListN.{length};
 ghost use Rattle.rules.specs.Promises.{was};
 ghost use Rattle.read_records.specs.declared.Row.the-variants.{Dst};
 ghost use Rattle.read_builder.specs.Builders.{origin};
-ghost use Rattle.read_records.specs.Tables.{xSteps, ySteps};
+ghost use Rattle.read_records.specs.Tables.{DstSteps};
 ghost use Rattle.read_fill.specs.Turns.{Room, Turns, Ends};
 ghost use Rattle.read_fill.specs.Cutting.{Cutting, RowsOf, turnTo, turnOf};
 
@@ -45,8 +45,8 @@ fn turn_triple(
     b: Builder,
     since: u32,
     cuts: u32,
-    xs: &[u8],
-    ys: &[u8],
+    xs: &[i32],
+    ys: &[i32],
     bytes: &[u8],
     at: usize,
     colors: &[u32],
@@ -54,7 +54,7 @@ fn turn_triple(
     runs: &mut [u32],
     blocks: &mut [u32],
 ) -> TripleTurn
-    requires { ⌜ (now xs ≡ xSteps) × (now ys ≡ ySteps) ⌝ }
+    requires { ⌜ DstSteps false (now xs) × DstSteps true (now ys) ⌝ }
     requires { ⌜ at + 3 ≤ length (now bytes) ⌝ }
     requires { ⌜ Room Dst bytes colors b at places runs blocks ⌝ }
     requires { ⌜ Cutting (now bytes) b since cuts at ⌝ }
@@ -106,8 +106,8 @@ pub fn fill_triples(
     ensures { λ q. ⌜ Ends Dst (was bytes) (was colors) places runs blocks (q .b) ⌝ }
     ensures { λ q. ⌜ RowsOf Dst (was bytes) (q .rows) ⌝ }
 {
-    let xs = x_steps();
-    let ys = y_steps();
+    let xs = dst_steps(false);
+    let ys = dst_steps(true);
     let mut b = new();
     let mut since: u32 = 0;
     let mut cuts: u32 = 0;

@@ -78,11 +78,11 @@ weigh-le p q r s t = omega arith
 step-le : (m n : ℕ) → m ≤ 121 → n ≤ 121 → natAbs (pos m -ℤ pos n) ≤ 242
 step-le m n h k = omega (arith, less-size m n)
 
-x-le : (a b c : ℕ) → natAbs (dstX a b c) ≤ 242
+pub x-le : (a b c : ℕ) → natAbs (dstX a b c) ≤ 242
 unfolding dstX bit
 x-le a b c = step-le _ _ (weigh-le (c / 4) (b / 4) (a / 4) (b / 1) (a / 1)) (weigh-le (c / 8) (b / 8) (a / 8) (b / 2) (a / 2))
 
-y-le : (a b c : ℕ) → natAbs (dstY a b c) ≤ 242
+pub y-le : (a b c : ℕ) → natAbs (dstY a b c) ≤ 242
 unfolding dstY bit
 y-le a b c = rw abs-neg (step-le _ _ (weigh-le (c / 32) (b / 32) (a / 32) (b / 128) (a / 128)) (weigh-le (c / 16) (b / 16) (a / 16) (b / 64) (a / 64)))
 

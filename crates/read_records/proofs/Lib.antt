@@ -4,9 +4,10 @@ pub mod Parts
 pub mod Formats
 pub mod Pairs
 pub mod Controls
-pub mod Halves
+pub mod Digits
 pub mod Dsts
 pub mod Pecs
 pub mod PecTables
+pub mod DstTables
 pub mod Fours
 pub mod Eights

@@ -2,19 +2,20 @@
 use Prim.Native.Nat.{ℕ, _+_, _<_}
 use mathlib.Core.Path.{_≡_}
 use mathlib.Core.Bool.{Bool}
-use mathlib.Core.List.{List, [], _∷_}
+use mathlib.Core.List.{List}
 use lib.Dec.{eqb}
 use lib.IntN.{ℤ, pos}
 use lib.ListN.{length, getD}
 use Rattle.rules.specs.Vocabulary.{pick}
+use Rattle.read_records.specs.Digits.{dstStep}
 use Rattle.read_records.specs.Words.{firstPart, plainStep}
 
--- DST: four bits of the first byte, as a step on each axis (of the second byte, a third of it), 10 being added
-abbrev pub xSteps : List ℕ
-xSteps = 10 ∷ 11 ∷ 9 ∷ 10 ∷ 19 ∷ 20 ∷ 18 ∷ 19 ∷ 1 ∷ 2 ∷ 0 ∷ 1 ∷ 10 ∷ 11 ∷ 9 ∷ 10 ∷ []
-
-abbrev pub ySteps : List ℕ
-ySteps = 10 ∷ 19 ∷ 1 ∷ 10 ∷ 11 ∷ 20 ∷ 2 ∷ 11 ∷ 9 ∷ 18 ∷ 0 ∷ 9 ∷ 10 ∷ 19 ∷ 1 ∷ 10 ∷ []
+-- DST: what each value of one byte adds to a step, along x or along y: of the first byte, then of the second, then of the third
+pub record DstSteps (y : Bool) (t : List ℤ) : Type 0 where
+  pub size : length t ≡ 768
+  pub first : (a : ℕ) → a < 256 → getD t a (pos 0) ≡ dstStep y a 0 0
+  pub second : (b : ℕ) → b < 256 → getD t (256 + b) (pos 0) ≡ dstStep y 0 b 0
+  pub third : (c : ℕ) → c < 256 → getD t (512 + c) (pos 0) ≡ dstStep y 0 0 c
 
 -- EXP and JEF: what a control does: 0 sews, 1 jumps, 2 changes colour, 3 ends
 abbrev pub kindOf : Bool → ℕ → ℕ

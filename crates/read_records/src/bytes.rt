@@ -2,7 +2,7 @@
 // A port of src/formats/read.rs of zigzag, changed.
 ghost use mathlib.Core.Path.{_≡_};
 ghost use Prim.Native.Nat.{_<_};
-ghost use lib.IntN.{pos, negℤ, _-ℤ_};
+ghost use lib.IntN.{negℤ};
 ghost use Rattle.rules.specs.Vocabulary.{signed};
 
 // 7 bits, the short form of a PEC step.
@@ -33,11 +33,4 @@ pub fn signed12(v: u16) -> i32
     ensures { λ r. ⌜ r ≡ signed 11 v ⌝ }
 {
     ((v + 2048) % 4096) as i32 - 2048
-}
-
-// a - b, as a signed number.
-pub fn less(a: u8, b: u8) -> i32
-    ensures { λ r. ⌜ r ≡ pos a -ℤ pos b ⌝ }
-{
-    (a as i32) - (b as i32)
 }

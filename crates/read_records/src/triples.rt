@@ -1,60 +1,92 @@
-// DST records, three bytes each.
+// DST records, three bytes each. Each axis has five pairs of bits; docs/RULES.md has the chart of them.
 // A port of src/formats/read.rs of zigzag, changed.
-use crate::bytes::less;
 use rules::Record;
 ghost use mathlib.Core.Path.{_≡_};
-ghost use Prim.Native.Nat.{_+_, _*_, _/_, _%_, _<_};
+ghost use mathlib.Core.Bool.{true, false};
+ghost use Prim.Native.Nat.{_/_, _%_, _<_};
 ghost use lib.ListN.{drop};
 ghost use Rattle.rules.specs.Dst.{dstX, dstY, dstRecord, dstFirst};
 ghost use Rattle.rules.specs.Promises.{was};
-ghost use Rattle.read_records.specs.Tables.{xSteps, ySteps};
+ghost use Rattle.read_records.specs.Digits.{pairDigit, dstStep};
+ghost use Rattle.read_records.specs.Tables.{DstSteps};
 
-// Four bits of the first byte, as a step on each axis (of the second byte, a third of it). 10 is added, so that no entry is negative.
-pub fn x_steps() -> [u8; 16]
-    ensures { λ r. ⌜ r ≡ xSteps ⌝ }
+// The digit of a pair of bits, by cases: neither or both, plus, minus.
+fn digit(byte: u8, plus: u8, minus: u8) -> i32
+    requires { ⌜ (0 < plus) × (0 < minus) ⌝ }
+    ensures { λ r. ⌜ r ≡ pairDigit (byte / plus % 2) (byte / minus % 2) ⌝ }
 {
-    [10, 11, 9, 10, 19, 20, 18, 19, 1, 2, 0, 1, 10, 11, 9, 10]
+    let p = byte / plus % 2;
+    let m = byte / minus % 2;
+    if p == m {
+        return 0;
+    }
+    if p == 1 {
+        return 1;
+    }
+    -1
 }
 
-pub fn y_steps() -> [u8; 16]
-    ensures { λ r. ⌜ r ≡ ySteps ⌝ }
-{
-    [10, 19, 1, 10, 11, 20, 2, 11, 9, 18, 0, 9, 10, 19, 1, 10]
-}
-
-fn x_of(xs: &[u8], n: u8) -> u8
-    requires { ⌜ (n < 16) × (now xs ≡ xSteps) ⌝ }
-    ensures { λ r. ⌜ r + (9 * (n / 8 % 2) + n / 2 % 2) ≡ 10 + (9 * (n / 4 % 2) + n % 2) ⌝ }
-{
-    xs[n as usize]
-}
-
-fn y_of(ys: &[u8], n: u8) -> u8
-    requires { ⌜ (n < 16) × (now ys ≡ ySteps) ⌝ }
-    ensures { λ r. ⌜ r + (9 * (n / 2 % 2) + n / 8 % 2) ≡ 10 + (9 * (n % 2) + n / 4 % 2) ⌝ }
-{
-    ys[n as usize]
-}
-
-// The sum of ±1, ±3, ±9, ±27, ±81 on one axis: four of the five from the tables.
-pub fn dst_dx(xs: &[u8], a: u8, b: u8, c: u8) -> i32
-    requires { ⌜ now xs ≡ xSteps ⌝ }
+// A line for each pair of the chart: byte, plus, minus, weight.
+pub fn x_step(a: u8, b: u8, c: u8) -> i32
     ensures { λ r. ⌜ r ≡ dstX a b c ⌝ }
 {
-    less(
-        x_of(xs, a % 16) + 3 * x_of(xs, b % 16) + 81 * (c / 4 % 2),
-        40 + 81 * (c / 8 % 2),
-    )
+    digit(c, 0x04, 0x08) * 81
+        + digit(b, 0x04, 0x08) * 27
+        + digit(a, 0x04, 0x08) * 9
+        + digit(b, 0x01, 0x02) * 3
+        + digit(a, 0x01, 0x02)
 }
 
-pub fn dst_dy(ys: &[u8], a: u8, b: u8, c: u8) -> i32
-    requires { ⌜ now ys ≡ ySteps ⌝ }
+// The chart's y goes up, ours down.
+pub fn y_step(a: u8, b: u8, c: u8) -> i32
     ensures { λ r. ⌜ r ≡ dstY a b c ⌝ }
 {
-    less(
-        y_of(ys, a / 16) + 3 * y_of(ys, b / 16) + 81 * (c / 16 % 2),
-        40 + 81 * (c / 32 % 2),
-    )
+    let up = digit(c, 0x20, 0x10) * 81
+        + digit(b, 0x20, 0x10) * 27
+        + digit(a, 0x20, 0x10) * 9
+        + digit(b, 0x80, 0x40) * 3
+        + digit(a, 0x80, 0x40);
+    0 - up
+}
+
+// Along x, or along y.
+fn dst_step(y: bool, a: u8, b: u8, c: u8) -> i32
+    ensures { λ r. ⌜ r ≡ dstStep y a b c ⌝ }
+{
+    if y {
+        return y_step(a, b, c);
+    }
+    x_step(a, b, c)
+}
+
+// What each value of the first byte, of the second and of the third adds to a step, for a loop, which is passed it.
+pub fn dst_steps(y: bool) -> [i32; 768]
+    ensures { λ t. ⌜ DstSteps y t ⌝ }
+{
+    let mut steps = [0i32; 768];
+    let mut n: usize = 0;
+    while n < 256 {
+        steps[n] = dst_step(y, n as u8, 0, 0);
+        steps[256 + n] = dst_step(y, 0, n as u8, 0);
+        steps[512 + n] = dst_step(y, 0, 0, n as u8);
+        n += 1;
+    }
+    steps
+}
+
+// `x_step` by the table.
+pub fn dst_dx(steps: &[i32], a: u8, b: u8, c: u8) -> i32
+    requires { ⌜ DstSteps false (now steps) ⌝ }
+    ensures { λ r. ⌜ r ≡ dstX a b c ⌝ }
+{
+    steps[a as usize] + steps[256 + (b as usize)] + steps[512 + (c as usize)]
+}
+
+pub fn dst_dy(steps: &[i32], a: u8, b: u8, c: u8) -> i32
+    requires { ⌜ DstSteps true (now steps) ⌝ }
+    ensures { λ r. ⌜ r ≡ dstY a b c ⌝ }
+{
+    steps[a as usize] + steps[256 + (b as usize)] + steps[512 + (c as usize)]
 }
 
 // The third byte, tested in the order of `read_dst`: end, colour change, jump.
@@ -86,7 +118,5 @@ pub fn dst_record(file: &[u8], at: usize) -> Record
     let a = file[at];
     let b = file[at + 1];
     let c = file[at + 2];
-    let xs = x_steps();
-    let ys = y_steps();
-    kind(c, dst_dx(&xs, a, b, c), dst_dy(&ys, a, b, c))
+    kind(c, x_step(a, b, c), y_step(a, b, c))
 }

@@ -1,6 +1,6 @@
 -- Turn by turn, by `Going` and `Cutting`.
 use Prim.Native.Nat.{_-_}
-use mathlib.Core.Path.{sym, ap}
+use mathlib.Core.Path.{sym}
 use native.Mathlib.Omega.{arith}
 use lib.ListN.{length}
 use Rattle.read_builder.specs.Builders.{origin}
@@ -29,7 +29,7 @@ turn-triple-requires : tie.Need-turn-triple-requires Inv-loop μ-loop
 turn-triple-requires c κs =
     let l = c .before .before .before .before .before .before in
     let h = l .before .whole-records .ensures .0 (l .loop .at) (c .before .before .before .before .before .loop-test .taken) in
-    ((l .before .before .before .before .x-steps .ensures, l .before .before .before .y-steps .ensures), (h, (l .loop .inv .0 .ready, l .loop .inv .1)))
+    ((l .before .before .before .before .dst-steps .ensures, l .before .before .before .dst-steps2 .ensures), (h, (l .loop .inv .0 .ready, l .loop .inv .1)))
 
 loop-less : tie.Need-loop-less Inv-loop μ-loop
 loop-less c =
@@ -56,7 +56,7 @@ fill-triples-spec =
     tie.close
     (tie.spec
     Inv-loop μ-loop (λ c κs. tt) (λ c κs. tt) (λ c κs. tt) (λ c κs. tt) loop-holds
-    (λ c. sym (ap length (c .before .before .before .before .before .before .x-steps .ensures)))
-    (λ c. sym (ap length (c .before .before .before .before .before .before .y-steps .ensures)))
+    (λ c. sym (c .before .before .before .before .before .before .dst-steps .ensures .size))
+    (λ c. sym (c .before .before .before .before .before .before .dst-steps2 .ensures .size))
     turn-triple-requires loop-less loop-again (λ c κs. c .before .before .before .before .loop .inv .0 .ready)
     (λ c. search needs) (λ c. search needs) (λ c. search needs) returns)

@@ -18,7 +18,7 @@ use Rattle.read_fill.proofs.triples.turn_triple.Tie as tie
 
 -- the record, as the code reads it
 abbrev start : tie.After-dst-dy → tie.Start
-start c = c .before .before .before .before .before .before .before .before .before .before .before .before .before
+start c = c .before .before .before .before .before .before .before .before .before .before .before
 
 triple : (c : tie.After-dst-dy) → let a = start c .args in let u = c .before .before .before .dst-dx .result in
     Triple (now (a .bytes)) (a .at) (read u) (read (c .dst-dy .result))

@@ -11,8 +11,8 @@ use Rattle.read_records.proofs.triples.dst_record.Tie as tie
 
 returns-3 : tie.Need-returns-3
 returns-3 c =
-    let a = c .before .before .before .before .before .before .before .before .before .before .before .before .before .args in
-    let x = c .before .before .before .dst-dx in let y = c .before .dst-dy in
+    let a = c .before .before .before .before .before .before .before .before .before .args in
+    let x = c .before .before .x-step in let y = c .before .y-step in
     rw (c .kind .ensures, ret w32 (x .result) (x .ok), x .ensures, ret w32 (y .result) (y .ok), y .ensures)
     (sym (dst-whole (now (a .file)) (a .at) (omega arith)))
 
@@ -23,4 +23,4 @@ dst-record-spec =
     (λ c. let a = c .before .before .args in sym (dst-short (now (a .file)) (a .at) (omega arith))) (λ c. search needs)
     (λ c. let a = c .before .before .before .args in sym (dst-short (now (a .file)) (a .at) (omega arith))) (λ c. search needs)
     (λ c. search needs) (λ c. search needs) (λ c. search needs) (λ c. search needs) (λ c κs. search needs) (λ c κs. search needs)
-    (λ c. search needs) (λ c κs. search needs) (λ c. search needs) (λ c κs. search needs) (λ c κs. search needs) returns-3)
+    (λ c κs. search needs) returns-3)
