@@ -1,5 +1,5 @@
 -- DST steps by cases on each pair of bits.
-use Prim.Native.Nat.{ℕ}
+use Prim.Native.Nat.{ℕ, _*_}
 use mathlib.Core.Bool.{Bool, true, false}
 use lib.Dec.{eqb}
 use lib.IntN.{ℤ, pos, negℤ, _+ℤ_, _*ℤ_}
@@ -18,3 +18,8 @@ weighed d81 d27 d9 d3 d1 = d81 *ℤ pos 81 +ℤ d27 *ℤ pos 27 +ℤ d9 *ℤ pos
 abbrev pub dstStep : Bool → ℕ → ℕ → ℕ → ℤ
 dstStep true a b c = dstY a b c
 dstStep false a b c = dstX a b c
+
+-- four bits of a byte as they stand in it: x has the low four, y the high four
+abbrev pub axisBits : Bool → ℕ → ℕ
+axisBits true n = n * 16
+axisBits false n = n

@@ -7,15 +7,15 @@ use lib.Dec.{eqb}
 use lib.IntN.{ℤ, pos}
 use lib.ListN.{length, getD}
 use Rattle.rules.specs.Vocabulary.{pick}
-use Rattle.read_records.specs.Digits.{dstStep}
+use Rattle.read_records.specs.Digits.{dstStep, axisBits}
 use Rattle.read_records.specs.Words.{firstPart, plainStep}
 
--- DST: what each value of one byte adds to a step, along x or along y: of the first byte, then of the second, then of the third
+-- DST: what the four bits of an axis in one byte add to a step: in the first byte, then in the second, then in the third
 pub record DstSteps (y : Bool) (t : List ℤ) : Type 0 where
-  pub size : length t ≡ 768
-  pub first : (a : ℕ) → a < 256 → getD t a (pos 0) ≡ dstStep y a 0 0
-  pub second : (b : ℕ) → b < 256 → getD t (256 + b) (pos 0) ≡ dstStep y 0 b 0
-  pub third : (c : ℕ) → c < 256 → getD t (512 + c) (pos 0) ≡ dstStep y 0 0 c
+  pub size : length t ≡ 48
+  pub first : (n : ℕ) → n < 16 → getD t n (pos 0) ≡ dstStep y (axisBits y n) 0 0
+  pub second : (n : ℕ) → n < 16 → getD t (16 + n) (pos 0) ≡ dstStep y 0 (axisBits y n) 0
+  pub third : (n : ℕ) → n < 16 → getD t (32 + n) (pos 0) ≡ dstStep y 0 0 (axisBits y n)
 
 -- EXP and JEF: what a control does: 0 sews, 1 jumps, 2 changes colour, 3 ends
 abbrev pub kindOf : Bool → ℕ → ℕ

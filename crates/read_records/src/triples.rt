@@ -7,7 +7,7 @@ ghost use Prim.Native.Nat.{_/_, _%_, _<_};
 ghost use lib.ListN.{drop};
 ghost use Rattle.rules.specs.Dst.{dstX, dstY, dstRecord, dstFirst};
 ghost use Rattle.rules.specs.Promises.{was};
-ghost use Rattle.read_records.specs.Digits.{pairDigit, dstStep};
+ghost use Rattle.read_records.specs.Digits.{pairDigit, dstStep, axisBits};
 ghost use Rattle.read_records.specs.Tables.{DstSteps};
 
 // The digit of a pair of bits, by cases: neither or both, plus, minus.
@@ -27,7 +27,7 @@ fn digit(byte: u8, plus: u8, minus: u8) -> i32
 }
 
 // A line for each pair of the chart: byte, plus, minus, weight.
-pub fn x_step(a: u8, b: u8, c: u8) -> i32
+fn x_step(a: u8, b: u8, c: u8) -> i32
     ensures { λ r. ⌜ r ≡ dstX a b c ⌝ }
 {
     digit(c, 0x04, 0x08) * 81
@@ -38,7 +38,7 @@ pub fn x_step(a: u8, b: u8, c: u8) -> i32
 }
 
 // The chart's y goes up, ours down.
-pub fn y_step(a: u8, b: u8, c: u8) -> i32
+fn y_step(a: u8, b: u8, c: u8) -> i32
     ensures { λ r. ⌜ r ≡ dstY a b c ⌝ }
 {
     let up = digit(c, 0x20, 0x10) * 81
@@ -59,34 +59,48 @@ fn dst_step(y: bool, a: u8, b: u8, c: u8) -> i32
     x_step(a, b, c)
 }
 
-// What each value of the first byte, of the second and of the third adds to a step, for a loop, which is passed it.
-pub fn dst_steps(y: bool) -> [i32; 768]
+// Four bits of a byte as they stand in it: x has the low four of each byte, y the high four.
+fn axis_bits(y: bool, n: u8) -> u8
+    requires { ⌜ n < 16 ⌝ }
+    ensures { λ r. ⌜ r ≡ axisBits y n ⌝ }
+{
+    if y {
+        return n * 16;
+    }
+    n
+}
+
+// A cache of the cases for a loop, which is passed it: what the four bits of an axis add to a step in the first byte, then in the second,
+// then in the third.
+pub fn dst_steps(y: bool) -> [i32; 48]
     ensures { λ t. ⌜ DstSteps y t ⌝ }
 {
-    let mut steps = [0i32; 768];
+    let mut steps = [0i32; 48];
     let mut n: usize = 0;
-    while n < 256 {
-        steps[n] = dst_step(y, n as u8, 0, 0);
-        steps[256 + n] = dst_step(y, 0, n as u8, 0);
-        steps[512 + n] = dst_step(y, 0, 0, n as u8);
+    while n < 16 {
+        let bits = axis_bits(y, n as u8);
+        steps[n] = dst_step(y, bits, 0, 0);
+        steps[16 + n] = dst_step(y, 0, bits, 0);
+        steps[32 + n] = dst_step(y, 0, 0, bits);
         n += 1;
     }
     steps
 }
 
-// `x_step` by the table.
+// `x_step` by the cache.
 pub fn dst_dx(steps: &[i32], a: u8, b: u8, c: u8) -> i32
     requires { ⌜ DstSteps false (now steps) ⌝ }
     ensures { λ r. ⌜ r ≡ dstX a b c ⌝ }
 {
-    steps[a as usize] + steps[256 + (b as usize)] + steps[512 + (c as usize)]
+    steps[(a % 16) as usize] + steps[16 + (b % 16) as usize] + steps[32 + (c % 16) as usize]
 }
 
+// `y_step` by the cache.
 pub fn dst_dy(steps: &[i32], a: u8, b: u8, c: u8) -> i32
     requires { ⌜ DstSteps true (now steps) ⌝ }
     ensures { λ r. ⌜ r ≡ dstY a b c ⌝ }
 {
-    steps[a as usize] + steps[256 + (b as usize)] + steps[512 + (c as usize)]
+    steps[(a / 16) as usize] + steps[16 + (b / 16) as usize] + steps[32 + (c / 16) as usize]
 }
 
 // The third byte, tested in the order of `read_dst`: end, colour change, jump.
