@@ -8,7 +8,7 @@ ghost use Prim.Native.Nat.{ℕ, _+_, _≤_, _<_};
 ghost use lib.Dec.{leb, ltb};
 ghost use lib.IntN.{natAbs, _-ℤ_};
 ghost use lib.ListN.{length, take, replicate};
-ghost use Rattle.rules.specs.Vocabulary.{keep, little, digitAt, padded, right};
+ghost use Rattle.rules.specs.Vocabulary.{keep, bitsOf, little, digitAt, padded, right};
 ghost use Rattle.rules.specs.Promises.{was};
 ghost use Rattle.laws.specs.Buffers.{Puts};
 
@@ -91,6 +91,14 @@ pub fn put_short(out: &mut [u8], at: usize, v: usize) -> usize
 {
     let high = v / 256;
     put2(out, at, (v % 256) as u8, (high % 256) as u8)
+}
+
+// A number of 16 bits in two's complement.
+pub fn low16(z: i32) -> usize
+    requires { ⌜ natAbs z ≤ 32767 ⌝ }
+    ensures { λ r. ⌜ r ≡ bitsOf 15 z ⌝ }
+{
+    (((z + 65536) as u32) % 65536) as usize
 }
 
 pub fn put_text(out: &mut [u8], at: usize, text: &[u8]) -> usize

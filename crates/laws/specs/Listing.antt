@@ -2,7 +2,7 @@
 -- that three slices hold.
 -- Assumes nothing.
 use Prim.Native.Nat.{ℕ, zero, suc, _+_, _≤_, _<_, min}
-use mathlib.Core.Path.{_≡_, refl, sym, _∙_}
+use mathlib.Core.Path.{_≡_, refl, sym, ap, _∙_}
 use mathlib.Core.Bool.{Bool, true, false}
 use mathlib.Core.List.{List, [], _∷_}
 use native.Mathlib.Nat.{le-of-suc-le-suc, not-suc-le-zero, add-assoc}
@@ -13,6 +13,7 @@ use lib.Seq.{drop-cons}
 use lib.IntN.{ℤ, pos}
 use Rattle.rules.specs.Vocabulary.{pick, any, count}
 use Rattle.rules.specs.Lists.{commands}
+use Rattle.rules.specs.Promises.{xsOf, ysOf, kindsOf}
 use Rattle.rules.specs.declared.Cmd.{Cmd}
 use Rattle.laws.specs.Tests.{by-test}
 
@@ -93,3 +94,9 @@ commands-at (x ∷ xs) (y ∷ ys) (k ∷ ks) (suc i) h = commands-at xs ys ks i 
 -- one more command
 pub commands-more : (xs ys : List ℤ) (ks : List ℕ) (i : ℕ) → i < length (commands xs ys ks) → drop i (commands xs ys ks) ≡ cmdAt xs ys ks i ∷ drop (i + 1) (commands xs ys ks)
 commands-more xs ys ks i h = list-more (commands xs ys ks) noCmd i h ∙ rw (commands-at xs ys ks i h)
+
+-- the three columns of a list of records hold that list
+pub columns : (cs : List Cmd) → commands (xsOf cs) (ysOf cs) (kindsOf cs) ≡ cs
+unfolding commands
+columns [] = refl
+columns (c ∷ cs) = ap (λ (r : List Cmd). c ∷ r) (columns cs)

@@ -1,5 +1,6 @@
 // PES: what one command writes, and the state between two commands.
 // A port of src/formats/pes.rs of zigzag, changed.
+use emit::low16;
 use emit::put_short;
 use formats::op_of;
 use pec_threads::code_at;
@@ -9,9 +10,8 @@ ghost use mathlib.Core.Bool.{true, false, not};
 ghost use mathlib.Core.List.{[], _∷_};
 ghost use Prim.Native.Nat.{_+_, _≤_};
 ghost use lib.Dec.{eqb};
-ghost use lib.IntN.{natAbs};
 ghost use lib.ListN.{length};
-ghost use Rattle.rules.specs.Vocabulary.{pick, bitsOf, little};
+ghost use Rattle.rules.specs.Vocabulary.{pick, little};
 ghost use Rattle.rules.specs.Lists.{opOf, threadsOf};
 ghost use Rattle.rules.specs.Pes.{pesStart, pesNext, pesPoint, pesOpen, opensSection, shorts};
 ghost use Rattle.rules.specs.Promises.{was};
@@ -163,14 +163,6 @@ pub fn next(
             sections: s.sections,
         },
     }
-}
-
-// A number of 16 bits in two's complement.
-fn low16(z: i32) -> usize
-    requires { ⌜ natAbs z ≤ 32767 ⌝ }
-    ensures { λ r. ⌜ r ≡ bitsOf 15 z ⌝ }
-{
-    (((z + 65536) as u32) % 65536) as usize
 }
 
 // A place from the left and the bottom edge.

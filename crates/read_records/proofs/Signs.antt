@@ -24,11 +24,11 @@ signed-size k n = by-test (ltb n (2 ^ k))
 pub less-size : (m n : ℕ) → natAbs (pos m -ℤ pos n) ≤ m + n
 less-size m n = omega (arith, abs-add (pos m) (negℤ (pos n)), abs-neg (pos n))
 
-pub small-fits : (z : ℤ) → natAbs z ≤ 4096 → SFits w32 z
+pub small-fits : (z : ℤ) → natAbs z ≤ 32768 → SFits w32 z
 small-fits z h = record { sfits = omega (arith, mag-is z, abs-is z) }
 
 -- `((n + 2 ^ k) % 2 ^ (k + 1)) as i32 - 2 ^ k`: that the difference fits, and what it is
-module _ (k n : ℕ) (h : n < 2 ^ (k + 1)) (l : 2 ^ k ≤ 4096) (s : (n + 2 ^ k) % 2 ^ (k + 1) < 2 ^ 31) where
+module _ (k n : ℕ) (h : n < 2 ^ (k + 1)) (l : 2 ^ k ≤ 32768) (s : (n + 2 ^ k) % 2 ^ (k + 1) < 2 ^ 31) where
   abbrev shift : ℤ
   shift = toZ w32 ((n + 2 ^ k) % 2 ^ (k + 1)) -ℤ pos (2 ^ k)
 

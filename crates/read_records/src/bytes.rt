@@ -34,3 +34,11 @@ pub fn signed12(v: u16) -> i32
 {
     ((v + 2048) % 4096) as i32 - 2048
 }
+
+// 16 bits, a long step of VP3 or a place of a job.
+pub fn signed16(n: u32) -> i32
+    requires { ⌜ n < 65536 ⌝ }
+    ensures { λ r. ⌜ r ≡ signed 15 n ⌝ }
+{
+    ((n + 32768) % 65536) as i32 - 32768
+}

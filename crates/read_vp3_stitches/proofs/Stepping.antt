@@ -116,21 +116,8 @@ module _ (s : List ℕ) (i : ℕ) where
       (λ f. after-80 (ltb-false _ _ e) (eqb-true _ _ f))
       (λ f. record { step = Stitch (signed 7 (getD s i 0)) (signed 7 (getD s (i + 1) 0)) 2; there = stitch-at s i (ltb-false _ _ e) (eqb-false _ _ f) }))
 
--- ---- 16 bits: the number, and what code computes
+-- ---- 16 bits
 
 pub word-at : (s : List ℕ) (i : ℕ) → i + 2 ≤ length s → 256 * getD s i 0 + getD s (i + 1) 0 ≡ fromBig (take 2 (drop i s))
 unfolding fromBig
 word-at s i h = rw (drop-two s i (omega arith)) (omega arith)
-
-module _ (n : ℕ) (h : n < 65536) where
-  abbrev shift : ℤ
-  shift = toZ w32 ((n + 32768) % 65536) -ℤ pos 32768
-
-  shift-signed : shift ≡ signed 15 n
-  shift-signed = rw (toZ-pos w32 {n = (n + 32768) % 65536} (omega arith)) (shifted 15 n h)
-
-  pub shift-fits : SFits w32 shift
-  shift-fits = rw shift-signed (fit w32 (signed 15 n) (omega (arith, mag-is (signed 15 n), abs-is (signed 15 n), signed-size 15 n)))
-
-  pub shift-is : toZ w32 (ofZ w32 shift) ≡ signed 15 n
-  shift-is = toZ-ofZ shift-fits ∙ shift-signed

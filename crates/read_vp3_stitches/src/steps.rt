@@ -1,5 +1,6 @@
 // What stands at a place of the stitches of a block.
 use read_records::bytes::s8;
+use read_records::bytes::signed16;
 ghost use mathlib.Core.Path.{_≡_};
 ghost use Prim.Native.Nat.{_+_, _≤_};
 ghost use lib.ListN.{length, take, drop};
@@ -22,7 +23,7 @@ fn s16(bytes: &[u8], at: usize) -> i32
     ensures { λ r. ⌜ r ≡ signed 15 (fromBig (take 2 (drop at (was bytes)))) ⌝ }
 {
     let n = 256 * (bytes[at] as u32) + (bytes[at + 1] as u32);
-    ((n + 32768) % 65536) as i32 - 32768
+    signed16(n)
 }
 
 // 80 01: a stitch of two 16-bit steps, if they are there.

@@ -1,7 +1,7 @@
 -- Refusals: their numbers, the conditions by whoever made the list, and the extension.
 use Prim.Native.Nat.{ℕ, _+_, _/_, _%_}
 use mathlib.Core.Bool.{Bool, _&&_, _||_, not}
-use mathlib.Core.List.{List, [], _∷_, map}
+use mathlib.Core.List.{List, [], _∷_, _++_, map}
 use lib.Dec.{ltb, leb, eqb}
 use lib.IntN.{ℤ, pos, _-ℤ_}
 use lib.ListN.{length}
@@ -105,15 +105,22 @@ unfoldable pub verdict : List (Refusal × Bool) → Verdict
 verdict [] = Accepted
 verdict (c ∷ cs) = pick (c .1) (Refused (c .0)) (verdict cs)
 
--- each over the whole list
-unfoldable pub listRefusals : Format → List ℤ → List ℤ → List ℕ → List ℕ → List (Refusal × Bool)
-listRefusals f xs ys kinds threads =
+-- 6 to 9, each over the whole list, whatever the format
+abbrev pub commandRefusals : List ℤ → List ℤ → List ℕ → List ℕ → List (Refusal × Bool)
+commandRefusals xs ys kinds threads =
     (BadList, badList xs ys kinds)
     ∷ (PlaceOutside, placeOutside (commands xs ys kinds))
     ∷ (TooMany, tooMany (commands xs ys kinds) threads)
     ∷ (Moved, moved (commands xs ys kinds))
-    ∷ (StepTooLong, stepTooLong f (commands xs ys kinds))
     ∷ []
+
+-- 6 to 10
+unfoldable pub listRefusals : Format → List ℤ → List ℤ → List ℕ → List ℕ → List (Refusal × Bool)
+listRefusals f xs ys kinds threads = commandRefusals xs ys kinds threads ++ (StepTooLong, stepTooLong f (commands xs ys kinds)) ∷ []
+
+-- A list with its threads is accepted by 6 to 9 if none of them holds.
+unfoldable pub commandVerdict : List ℤ → List ℤ → List ℕ → List ℕ → Verdict
+commandVerdict xs ys kinds threads = verdict (commandRefusals xs ys kinds threads)
 
 -- A list with its threads is accepted for a format if none of 6 to 10 holds of them.
 unfoldable pub listVerdict : Format → List ℤ → List ℤ → List ℕ → List ℕ → Verdict

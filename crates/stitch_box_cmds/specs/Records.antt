@@ -1,13 +1,12 @@
 -- A write of a list of n commands, the first m of which stand at the front of three slices.
 use Prim.Native.Nat.{ℕ}
-use mathlib.Core.Path.{_≡_, refl, ap}
+use mathlib.Core.Path.{_≡_}
 use mathlib.Core.Bool.{Bool, true, false}
-use mathlib.Core.List.{List, [], _∷_}
+use mathlib.Core.List.{List}
 use lib.Dec.{ltb}
 use lib.IntN.{ℤ}
 use lib.ListN.{take}
 use lib.Seq.{sets}
-use Rattle.rules.specs.Lists.{commands}
 use Rattle.rules.specs.Promises.{xsOf, ysOf, kindsOf, Wrote}
 use Rattle.rules.specs.declared.Cmd.{Cmd}
 use Rattle.rules.specs.declared.Extension.the-variants.{Of}
@@ -27,9 +26,3 @@ FrontBy false f name m xs ys kinds threads out out′ w = Wrote (Of f) name (tak
 
 abbrev pub WroteFront : Format → List ℕ → ℕ → ℕ → List ℤ → List ℤ → List ℕ → List ℕ → List ℕ → List ℕ → WriteAnswer → Type 0
 WroteFront f name n m xs ys kinds threads out out′ w = FrontBy (ltb m n) f name m xs ys kinds threads out out′ w
-
--- the three columns of a list of records hold that list
-pub columns : (cs : List Cmd) → commands (xsOf cs) (ysOf cs) (kindsOf cs) ≡ cs
-unfolding commands
-columns [] = refl
-columns (c ∷ cs) = ap (λ (r : List Cmd). c ∷ r) (columns cs)

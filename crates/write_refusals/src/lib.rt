@@ -15,7 +15,8 @@ ghost use lib.Dec.{ltb};
 ghost use lib.ListN.{length};
 ghost use Rattle.rules.specs.Vocabulary.{between, eqZ, any, count};
 ghost use Rattle.rules.specs.Lists.{commands, opOf, endsOnce, placed, samePlace, isChange, stands};
-ghost use Rattle.rules.specs.Refusals.{numberOf, badList, placeOutside, changes, tooMany, moved, stepTooLong, listVerdict, leastStep, greatestStep};
+ghost use Rattle.rules.specs.Refusals.{numberOf, badList, placeOutside, changes, tooMany, moved, stepTooLong, leastStep, greatestStep};
+ghost use Rattle.rules.specs.Refusals.{commandVerdict, listVerdict};
 ghost use Rattle.rules.specs.Promises.{was};
 
 // The number of a refusal.
@@ -247,9 +248,9 @@ pub fn step_too_long(f: Format, xs: &[i32], ys: &[i32], kinds: &[u8]) -> bool
     bad
 }
 
-// The first of refusals 6 to 10 that holds, each over the whole list before the next.
-pub fn check_list(f: Format, xs: &[i32], ys: &[i32], kinds: &[u8], threads: &[u8]) -> Verdict
-    ensures { λ r. ⌜ r ≡ listVerdict f (was xs) (was ys) (was kinds) (was threads) ⌝ }
+// The first of refusals 6 to 9 that holds, each over the whole list before the next.
+pub fn check_commands(xs: &[i32], ys: &[i32], kinds: &[u8], threads: &[u8]) -> Verdict
+    ensures { λ r. ⌜ r ≡ commandVerdict (was xs) (was ys) (was kinds) (was threads) ⌝ }
 {
     if bad_list(xs, ys, kinds) {
         return Verdict::Refused(Refusal::BadList);
@@ -263,6 +264,17 @@ pub fn check_list(f: Format, xs: &[i32], ys: &[i32], kinds: &[u8], threads: &[u8
     if moved(xs, ys, kinds) {
         return Verdict::Refused(Refusal::Moved);
     }
+    Verdict::Accepted
+}
+
+// The first of refusals 6 to 10 that holds.
+pub fn check_list(f: Format, xs: &[i32], ys: &[i32], kinds: &[u8], threads: &[u8]) -> Verdict
+    ensures { λ r. ⌜ r ≡ listVerdict f (was xs) (was ys) (was kinds) (was threads) ⌝ }
+{
+    let checked = check_commands(xs, ys, kinds, threads);
+    let Verdict::Accepted = checked else {
+        return checked;
+    };
     if step_too_long(f, xs, ys, kinds) {
         return Verdict::Refused(Refusal::StepTooLong);
     }

@@ -1,69 +1,53 @@
--- The answer is the first of refusals 6 to 10 that holds, asked in their order.
-use mathlib.Core.Path.{_≡_, refl, sym, _∙_}
-use mathlib.Core.Bool.{false}
-use mathlib.Core.List.{List}
-use Prim.Native.Nat.{ℕ, _≤_}
-use borrow.Author.Tests.{ltb-false}
-use denote.Ref.{now}
-use lib.Dec.{eqb}
+-- Refusals 6 to 9 decide where they refuse, and else 10.
+use mathlib.Core.Path.{_≡_, sym, _∙_}
+use mathlib.Core.Bool.{Bool, false}
+use mathlib.Core.List.{List, [], _∷_}
+use Prim.Native.Nat.{ℕ}
 use lib.IntN.{ℤ}
-use lib.ListN.{length, drop}
-use Rattle.rules.specs.Refusals.{badList, verdict, listRefusals, listVerdict}
-use Rattle.laws.specs.Tests.{or-no-left, or-no-right}
+use Rattle.rules.specs.Lists.{commands}
+use Rattle.rules.specs.Refusals.{badList, placeOutside, stepTooLong, verdict, commandRefusals, listRefusals, commandVerdict, listVerdict}
+use Rattle.rules.specs.declared.Format.{Format}
+use Rattle.rules.specs.declared.Refusal.{Refusal}
+use Rattle.rules.specs.declared.Refusal.the-variants.{StepTooLong}
+use Rattle.rules.specs.declared.Verdict.{Verdict}
+use Rattle.rules.specs.declared.Verdict.the-variants.{Accepted, Refused}
+use Rattle.laws.specs.Verdicts.{first-false, verdict-on, verdict-stop}
 use borrow.Author.Needs.{needs}
 use Rattle.write_refusals.proofs.check_list.Statement.{statement}
 use Rattle.write_refusals.proofs.check_list.Tie as tie
 
--- a list that passes 6 has 65,535 commands at most
-few : (xs ys : List ℤ) (ks : List ℕ) → badList xs ys ks ≡ false → length ks ≤ 65535
-unfolding badList
-few xs ys ks e = ltb-false 65535 (length ks) (or-no-left _ _ (or-no-right (eqb (length ks) 0) _ e))
+-- v is what was told of 6 to 9
+module _ (xs ys : List ℤ) (kinds threads : List ℕ) {v : Verdict} (t : v ≡ commandVerdict xs ys kinds threads) where
+  places : v ≡ Accepted → placeOutside (commands xs ys kinds) ≡ false
+  unfolding commandVerdict verdict
+  places e = first-false (placeOutside (commands xs ys kinds)) _ _ (first-false (badList xs ys kinds) _ _ (sym t ∙ e) .1) .0
 
--- the conditions past the first k decide: past each that does not hold, those after it
-abbrev Past : ℕ → tie.Start → Type 0
-Past k s =
-    let a = s .args in let xs = now (a .xs) in let ys = now (a .ys) in let ks = now (a .kinds) in
-    verdict (drop k (listRefusals (a .f) xs ys ks (now (a .threads)))) ≡ listVerdict (a .f) xs ys ks (now (a .threads))
+  refused : (f : Format) {r : Refusal} → v ≡ Refused r → v ≡ listVerdict f xs ys kinds threads
+  unfolding commandVerdict listVerdict listRefusals
+  refused f {r} e = e ∙ sym (verdict-stop (commandRefusals xs ys kinds threads) _ r (sym t ∙ e))
 
-past0 : (s : tie.Start) → Past 0 s
-unfolding listVerdict
-past0 s = refl
+  -- b is what was told of 10
+  steps : (f : Format) {b : Bool} → v ≡ Accepted → b ≡ stepTooLong f (commands xs ys kinds)
+      → verdict ((StepTooLong, b) ∷ []) ≡ listVerdict f xs ys kinds threads
+  unfolding commandVerdict listVerdict listRefusals
+  steps f e w = rw w (sym (verdict-on (commandRefusals xs ys kinds threads) _ (sym t ∙ e)))
 
-past1 : (c : tie.Else1) → Past 1 (c .before .before .before .before)
-unfolding listRefusals verdict
-past1 c = rw (← c .before .bad-list .ensures, c .if1 .left) at (past0 (c .before .before .before .before))
+returns-2 : tie.Need-returns-2
+unfolding verdict
+returns-2 c =
+    let checked = c .before .before .before .before in
+    rw (c .if1 .taken) at (steps _ _ _ _ (checked .check-commands .ensures) _ (c .before .before .enum-told .given .1) (c .before .step-too-long .ensures))
 
-past2 : (c : tie.Else2) → Past 2 (c .before .before .before .before .before .before)
-unfolding listRefusals verdict
-past2 c = rw (← c .before .place-outside .ensures, c .if2 .left) at (past1 (c .before .before))
-
-past3 : (c : tie.Else3) → Past 3 (c .before .before .before .before .before .before .before .before)
-unfolding listRefusals verdict
-past3 c = rw (← c .before .too-many .ensures, c .if3 .left) at (past2 (c .before .before))
-
-past4 : (c : tie.Else4) → Past 4 (c .before .before .before .before .before .before .before .before .before .before)
-unfolding listRefusals verdict
-past4 c = rw (← c .before .moved .ensures, c .if4 .left) at (past3 (c .before .before))
-
-too-many-requires : tie.Need-too-many-requires
-too-many-requires c κs =
-    let e1 = c .before .before in
-    let a = e1 .before .before .before .before .args in
-    few (now (a .xs)) (now (a .ys)) (now (a .kinds)) (sym (e1 .before .bad-list .ensures) ∙ e1 .if1 .left)
-
-step-too-long-requires : tie.Need-step-too-long-requires
-step-too-long-requires c κs =
-    let e2 = c .before .before .before .before in
-    sym (e2 .before .place-outside .ensures) ∙ e2 .if2 .left
+returns-3 : tie.Need-returns-3
+unfolding verdict
+returns-3 c =
+    let checked = c .before .before .before .before in
+    rw (c .if1 .left) at (steps _ _ _ _ (checked .check-commands .ensures) _ (c .before .before .enum-told .given .1) (c .before .step-too-long .ensures))
 
 pub check-list-spec : {M : Type 1} → statement M
-unfolding listRefusals verdict
 check-list-spec =
     tie.close
     (tie.spec
-    (λ c κs. search needs) (λ c. rw (← c .before .bad-list .ensures, c .if1 .taken) at (past0 (c .before .before .before .before)))
-    (λ c κs. search needs) (λ c. rw (← c .before .place-outside .ensures, c .if2 .taken) at (past1 (c .before .before)))
-    too-many-requires (λ c. rw (← c .before .too-many .ensures, c .if3 .taken) at (past2 (c .before .before)))
-    (λ c κs. search needs) (λ c. rw (← c .before .moved .ensures, c .if4 .taken) at (past3 (c .before .before)))
-    step-too-long-requires (λ c. rw (← c .before .step-too-long .ensures, c .if5 .taken) at (past4 (c .before .before)))
-    (λ c. rw (← c .before .step-too-long .ensures, c .if5 .left) at (past4 (c .before .before))))
+    (λ c κs. search needs) (λ c. search needs) (λ c. search needs)
+    (λ c. refused _ _ _ _ (c .before .before .check-commands .ensures) _ (c .enum-told2 .given .1))
+    (λ c κs. places _ _ _ _ (c .before .before .check-commands .ensures) (c .enum-told .given .1)) returns-2 returns-3)

@@ -2,8 +2,8 @@
 use native.Mathlib.Omega.{arith}
 use Rattle.laws.specs.Twos.{over-fits, over-cast, over-low}
 use borrow.Author.Needs.{needs}
-use Rattle.pes_section_cmd.proofs.low16.Statement.{statement}
-use Rattle.pes_section_cmd.proofs.low16.Tie as tie
+use Rattle.emit.proofs.low16.Statement.{statement}
+use Rattle.emit.proofs.low16.Tie as tie
 
 pub low16-spec : {M : Type 1} → statement M
 low16-spec = tie.close (tie.spec
