@@ -1,4 +1,4 @@
-/* The stitch box for C: six embroidery formats (PES, PEC, DST, EXP, JEF, VP3), written and read.
+/* The stitch box for C: six embroidery formats (PES, PEC, DST, EXP, JEF, VP3), written and read; job files, imported and exported.
  *
  * The archive is target/staticlib/libstitch_box_c.a, made by `rt staticlib stitch_box_c`, for x86-64 Linux. It takes memcpy and memset from
  * the C library and nothing else, uses no heap and keeps nothing between calls. Each slice is a pointer and a length, counted in elements.
@@ -21,16 +21,17 @@ extern "C" {
 #endif
 
 /* Raised with each change of the interface or of what the functions answer; CHANGELOG.md has what changed. */
-#define STITCH_BOX_VERSION "0.4.0"
+#define STITCH_BOX_VERSION "0.5.0"
 
 /* What a function answers: 0, or the number of a refusal. A number comes if its condition holds and that of none before it in the order of
  * checking. Reading checks 1, 2, 3, 4, 5, 11, the count byte (4) after 5; in a VP3 4 and 12 come after 3, in order of place in the file.
- * Writing checks 1, 6, 7, 8, 9, 10, 11, each over the whole list. A refused call changes no element of any slice; the counts and lengths
- * that it is given references to become 0. */
+ * Writing checks 1, 6, 7, 8, 9, 10, 11, each over the whole list. Importing a job checks 2, then 13 and 14 in order of place in the job,
+ * then 6, 7, 8, 9, 11; exporting one checks 14 (the name), 6, 7, 8, 9, 11. A refused call changes no element of any slice; the counts and
+ * lengths that it is given references to become 0. */
 enum {
     STITCH_BOX_DONE = 0,
     STITCH_BOX_UNKNOWN_EXTENSION = 1, /* The extension is none of the six. */
-    STITCH_BOX_FILE_TOO_LONG = 2,     /* The file has more than 2,097,152 bytes. */
+    STITCH_BOX_FILE_TOO_LONG = 2,     /* The file or job has more than 2,097,152 bytes. */
     STITCH_BOX_BAD_OPENING = 3,       /* A PES does not begin #PES, or a VP3 does not begin %vsm% and a zero byte. */
     STITCH_BOX_FILE_TOO_SHORT = 4,    /* PES under 12 bytes, DST under 512, JEF under 4, a PEC part without its count byte, or a VP3 part
                                          that ends before or inside a fixed field ahead of stitches. */
@@ -42,7 +43,10 @@ enum {
     STITCH_BOX_MOVED = 9,             /* A trim, colour change or end is not where the command before was ((0, 0) if it is the first). */
     STITCH_BOX_STEP_TOO_LONG = 10,    /* A step is past the limit of the format. */
     STITCH_BOX_BUFFER_TOO_SHORT = 11, /* A slice to be written is shorter than the answer. */
-    STITCH_BOX_OUT_OF_RANGE = 12      /* A VP3 length passes its enclosing part, or a place or block start is beyond 32 signed bits. */
+    STITCH_BOX_OUT_OF_RANGE = 12,     /* A VP3 length passes its enclosing part, or a place or block start is beyond 32 signed bits. */
+    STITCH_BOX_BAD_TAG = 13,          /* An unknown tag or kind in a job, a tag out of order, or no name. */
+    STITCH_BOX_BAD_LENGTH = 14        /* A job's field passes the end, or its length is not at most 64 (name), 3 (thread) or a multiple of 5
+                                         (commands); a name over 64 bytes. */
 };
 
 /* Kinds of commands. The last command, and only that, is an end. A command's place is absolute. A step is the change of place on one axis
@@ -133,6 +137,44 @@ uint32_t stitch_box_label(
     const uint8_t *ext, size_t ext_length,
     const uint8_t *file, size_t file_length,
     uint64_t *start, uint64_t *length);
+
+/* A job hands over a name, threads and a list of commands. It is a row of fields: a tag byte, a two-byte length, low byte first, and the
+ * content. Tag 1 is the name, once and first, of at most 64 bytes; tag 2 a thread, three bytes; tag 3 commands of five bytes: the kind,
+ * then x and y as signed 16-bit numbers, low byte first. Threads come before commands; the commands of several fields are one list. */
+
+/* Elements of xs, ys and kinds, and of threads, that always suffice to import a job of n bytes. */
+#define STITCH_BOX_JOB_COMMANDS_FOR(n) ((n) / 5)
+#define STITCH_BOX_JOB_THREADS_FOR(n) ((n) / 2)
+
+/* Imports a job to the fronts of xs, ys, kinds (one element a command) and threads (three a thread); the elements behind stay. The list is
+ * then one that stitch_box_write takes but for its steps, which are not checked here (10). *command_count is the number of commands,
+ * *thread_bytes that of the bytes of threads. */
+uint32_t stitch_box_import_job(
+    const uint8_t *job, size_t job_length,
+    int32_t *xs, size_t xs_length,
+    int32_t *ys, size_t ys_length,
+    uint8_t *kinds, size_t kinds_length,
+    uint8_t *threads, size_t threads_length,
+    uint32_t *command_count, uint32_t *thread_bytes);
+
+/* Where a job's name stands: *length bytes of the job from *start on, which is 3. The call meets every refusal of importing but 11; both
+ * are 0 then. */
+uint32_t stitch_box_job_name(const uint8_t *job, size_t job_length, uint64_t *start, uint64_t *length);
+
+/* Exports a list, its threads and a name as a job to the front of out, 1,000 commands to a field, and the job's length to *length; the
+ * bytes behind it stay. For a name of m bytes, n commands and t threads the length is 3 + m + 6 t + 5 n + 3 ((n + 999) / 1000). Imported,
+ * it gives the same name, threads and list. */
+uint32_t stitch_box_export_job(
+    const uint8_t *name, size_t name_length,
+    const int32_t *xs, size_t xs_length,
+    const int32_t *ys, size_t ys_length,
+    const uint8_t *kinds, size_t kinds_length,
+    const uint8_t *threads, size_t threads_length,
+    uint8_t *out, size_t out_length,
+    uint64_t *length);
+
+/* No job that is exported is longer. */
+#define STITCH_BOX_JOB_BOUND 329470
 
 #ifdef __cplusplus
 }

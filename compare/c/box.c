@@ -1,6 +1,6 @@
 /* Writes a square in each format by both writes, reads it back, asks for its label and prints what came back; then sees to it that refused
- * calls answer their number and change no buffer, and that the cuts of a DST are counted by rows of jumps. Valid C99 and C++. The status is
- * 1 if anything is wrong. */
+ * calls answer their number and change no buffer, and that the cuts of a DST are counted by rows of jumps. Exports the square as a job and
+ * imports it. Valid C99 and C++. The status is 1 if anything is wrong. */
 #include "../../include/stitch_box.h"
 #include <stdio.h>
 #include <string.h>
@@ -13,6 +13,9 @@ typedef char kind_is_at_8[offsetof(struct stitch_box_cmd, kind) == 8 ? 1 : -1];
 
 /* Buffers have ROOM elements, of which a call gets a part, and their bytes are set to MARK before each call. */
 enum { COMMANDS = 6, TOO_MANY = 65536, ROOM = 4096, MARK = 0xA5 };
+
+/* The square's job: three bytes before the name, before the thread and before the commands, of five bytes each. */
+enum { JOB_BYTES = 3 + 6 + 3 + 3 + 3 + 5 * COMMANDS };
 
 static const char *const exts[] = {"pes", "pec", "dst", "exp", "jef", "vp3"};
 static const char name[] = "square";
@@ -36,6 +39,9 @@ static uint8_t file[ROOM], out[ROOM];
 static int32_t places[ROOM];
 static uint32_t runs[ROOM], blocks[ROOM];
 static uint32_t point_count, run_count, block_count, cut_count;
+static int32_t job_xs[ROOM], job_ys[ROOM];
+static uint8_t job_kinds[ROOM], job_threads[ROOM];
+static uint32_t command_count, thread_bytes;
 static int wrong;
 
 /* Says what is wrong, unless it is right. */
@@ -197,6 +203,85 @@ static void refuse_extension(const char *ext)
     see(start == 0 && told == 0, ext, "the label's place");
 }
 
+/* Exports the square under a name of so many bytes, to so many bytes. */
+static uint32_t export_square(const char *of_job, size_t name_length, size_t room, uint64_t *length)
+{
+    memset(out, MARK, sizeof out);
+    *length = 7;
+    return stitch_box_export_job(bytes(of_job), name_length, xs, COMMANDS, ys, COMMANDS, kinds, COMMANDS, threads, sizeof threads,
+                                 out, room, length);
+}
+
+/* Imports the front of the file, which is a job; so many elements of x, and enough of the others. */
+static uint32_t import_file(size_t length, size_t room)
+{
+    memset(job_xs, MARK, sizeof job_xs);
+    memset(job_ys, MARK, sizeof job_ys);
+    memset(job_kinds, MARK, sizeof job_kinds);
+    memset(job_threads, MARK, sizeof job_threads);
+    command_count = thread_bytes = 7;
+    return stitch_box_import_job(file, length, job_xs, room, job_ys, STITCH_BOX_JOB_COMMANDS_FOR(length), job_kinds,
+                                 STITCH_BOX_JOB_COMMANDS_FOR(length), job_threads, STITCH_BOX_JOB_THREADS_FOR(length),
+                                 &command_count, &thread_bytes);
+}
+
+/* Whether both calls refuse the job by this number, change nothing and tell zeros. */
+static int job_refused(size_t length, uint32_t wanted)
+{
+    uint64_t start = 7, name_length = 7;
+    return import_file(length, STITCH_BOX_JOB_COMMANDS_FOR(length)) == wanted && command_count == 0 && thread_bytes == 0 &&
+           marked(job_xs, 0, sizeof job_xs) && marked(job_ys, 0, sizeof job_ys) && marked(job_kinds, 0, sizeof job_kinds) &&
+           marked(job_threads, 0, sizeof job_threads) && stitch_box_job_name(file, length, &start, &name_length) == wanted &&
+           start == 0 && name_length == 0;
+}
+
+/* Exports the square as a job and keeps it as the file. */
+static void export_job(void)
+{
+    uint64_t length;
+    see(export_square(name, strlen(name), ROOM, &length) == STITCH_BOX_DONE, "job", "the export");
+    see(length == JOB_BYTES && length <= STITCH_BOX_JOB_BOUND, "job", "the length");
+    see(marked(out, JOB_BYTES, sizeof out), "job", "bytes behind the job");
+    memcpy(file, out, sizeof file);
+    see(refused(export_square(name, strlen(name), JOB_BYTES - 1, &length), STITCH_BOX_BUFFER_TOO_SHORT, &length), "job",
+        "a byte too few");
+}
+
+/* Imports the job, asks for its name and prints both. */
+static void import_job(void)
+{
+    uint64_t start = 7, length = 7;
+    see(import_file(JOB_BYTES, COMMANDS - 1) == STITCH_BOX_BUFFER_TOO_SHORT && command_count == 0 && thread_bytes == 0, "job",
+        "an element of x too few");
+    see(import_file(JOB_BYTES, COMMANDS) == STITCH_BOX_DONE, "job", "the import");
+    see(command_count == COMMANDS && thread_bytes == sizeof threads, "job", "the counts");
+    see(memcmp(job_xs, xs, sizeof xs) == 0 && memcmp(job_ys, ys, sizeof ys) == 0, "job", "the places");
+    see(memcmp(job_kinds, kinds, sizeof kinds) == 0 && memcmp(job_threads, threads, sizeof threads) == 0, "job", "kinds and threads");
+    see(marked(job_xs, sizeof xs, sizeof job_xs) && marked(job_ys, sizeof ys, sizeof job_ys) &&
+            marked(job_kinds, sizeof kinds, sizeof job_kinds) && marked(job_threads, sizeof threads, sizeof job_threads),
+        "job", "elements behind what was imported");
+    see(stitch_box_job_name(file, JOB_BYTES, &start, &length) == STITCH_BOX_DONE, "job", "the name");
+    if (!see(start == 3 && length == strlen(name), "job", "the name's place"))
+        return;
+    see(memcmp(file + start, name, strlen(name)) == 0, "job", "the name's bytes");
+    printf("job: %lu bytes; name [%.*s], %lu commands, %lu thread bytes\n", (unsigned long)JOB_BYTES, (int)length,
+           (const char *)file + start, (unsigned long)command_count, (unsigned long)thread_bytes);
+}
+
+/* 14: a last field that passes the end, a name of 65 bytes. 13: an unknown tag, no name. */
+static void refuse_job(void)
+{
+    char long_name[65];
+    uint64_t length;
+    memset(long_name, 'n', sizeof long_name);
+    see(job_refused(JOB_BYTES - 1, STITCH_BOX_BAD_LENGTH), "job", "a field that passes the end");
+    see(refused(export_square(long_name, 65, ROOM, &length), STITCH_BOX_BAD_LENGTH, &length), "job", "a name of 65 bytes");
+    see(export_square(long_name, 64, ROOM, &length) == STITCH_BOX_DONE && length == JOB_BYTES + 58, "job", "a name of 64 bytes");
+    file[0] = 9;
+    see(job_refused(JOB_BYTES, STITCH_BOX_BAD_TAG), "job", "an unknown tag");
+    see(job_refused(0, STITCH_BOX_BAD_TAG), "job", "no name");
+}
+
 int main(void)
 {
     many[TOO_MANY - 1].kind = STITCH_BOX_END;
@@ -214,7 +299,12 @@ int main(void)
         count_cuts(jumps);
     if (!wrong)
         printf("cuts of a DST: none for a row of fewer than three jumps between two stitches, one for a row of three to six\n");
+    export_job();
+    import_job();
+    refuse_job();
     if (!wrong)
-        printf("refused as they should be: buffers that are too short, 65,536 records, an unknown extension\n");
+        printf("refused as they should be: buffers that are too short, 65,536 records, an unknown extension; jobs with an unknown tag and\n"
+               "without a name (%d), a job with a field that passes the end and a name of 65 bytes (%d)\n",
+               STITCH_BOX_BAD_TAG, STITCH_BOX_BAD_LENGTH);
     return wrong;
 }

@@ -1,6 +1,6 @@
 //! Commands of the comparison; see README.md.
 
-use compare::bench::{hostile, one_call};
+use compare::bench::{hostile, jobs, one_call};
 use compare::inputs::samples;
 use compare::replay::{answers, edges, reads, runs_layout, vp3, writes};
 use compare::{against, bench, port};
@@ -13,8 +13,9 @@ use std::process::ExitCode;
 const USAGE: &str = "usage: compare samples | edges | show EXT FILE | answers | check | \
     reads COUNT SEED FOLDER | \
     writes COUNT SEED FOLDER | longs SEED FOLDER | vp3 COUNT SEED FOLDER | \
-    needles COUNT SEED | against COUNT SEED [THREADS] | \
-    bench [ROUNDS] | bench hostile [ROUNDS] | bench one DESIGN EXT CALL SIDE COUNT";
+    needles COUNT SEED | against COUNT SEED [THREADS] | jobs COUNT SEED | \
+    bench [ROUNDS] | bench hostile [ROUNDS] | bench jobs [ROUNDS] | \
+    bench one DESIGN EXT CALL SIDE COUNT";
 
 fn main() -> ExitCode {
     let words: Vec<OsString> = env::args_os().skip(1).collect();
@@ -34,6 +35,7 @@ fn main() -> ExitCode {
         (Some("against"), 4) => {
             number(&words[3]).and_then(|threads| compare(&words[1], &words[2], threads as usize))
         }
+        (Some("jobs"), 3) => compare_jobs(&words[1], &words[2]),
         (Some("bench"), _) => bench(&words[1..]),
         _ => {
             eprintln!("{USAGE}");
@@ -86,6 +88,12 @@ fn compare(count: &OsString, seed: &OsString, threads: usize) -> io::Result<bool
     Ok(against::compare(count as usize, seed, threads.max(1)))
 }
 
+fn compare_jobs(count: &OsString, seed: &OsString) -> io::Result<bool> {
+    let (count, seed) = (number(count)?, number(seed)?);
+    port::needed()?;
+    Ok(against::jobs::compare(count as usize, seed))
+}
+
 fn bench(words: &[OsString]) -> io::Result<bool> {
     port::needed()?;
     let words: Vec<&str> = words.iter().filter_map(|word| word.to_str()).collect();
@@ -94,6 +102,8 @@ fn bench(words: &[OsString]) -> io::Result<bool> {
         [] => Ok(bench::run(31)),
         ["hostile"] => Ok(hostile::print_all(5)),
         ["hostile", word] => Ok(hostile::print_all(rounds(word)?)),
+        ["jobs"] => Ok(jobs::print(31)),
+        ["jobs", word] => Ok(jobs::print(rounds(word)?)),
         ["one", design, ext, call, side, word] => {
             one_call::run(design, ext, call, side, count(word)?)
         }

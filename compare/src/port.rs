@@ -75,6 +75,44 @@ mod archive {
             commands: usize,
             threads: usize,
         ) -> usize;
+
+        pub fn stitch_box_import_job(
+            job: *const u8,
+            job_length: usize,
+            xs: *mut i32,
+            xs_length: usize,
+            ys: *mut i32,
+            ys_length: usize,
+            kinds: *mut u8,
+            kinds_length: usize,
+            threads: *mut u8,
+            threads_length: usize,
+            command_count: *mut u32,
+            thread_bytes: *mut u32,
+        ) -> u32;
+
+        pub fn stitch_box_job_name(
+            job: *const u8,
+            job_length: usize,
+            start: *mut u64,
+            length: *mut u64,
+        ) -> u32;
+
+        pub fn stitch_box_export_job(
+            name: *const u8,
+            name_length: usize,
+            xs: *const i32,
+            xs_length: usize,
+            ys: *const i32,
+            ys_length: usize,
+            kinds: *const u8,
+            kinds_length: usize,
+            threads: *const u8,
+            threads_length: usize,
+            out: *mut u8,
+            out_length: usize,
+            length: *mut u64,
+        ) -> u32;
     }
 }
 
@@ -91,7 +129,7 @@ pub struct Cmd {
 const _: () = assert!(size_of::<Cmd>() == 12 && align_of::<Cmd>() == 4);
 
 /// A list as the port takes it.
-#[derive(Clone)]
+#[derive(Clone, Default)]
 pub struct Lists {
     pub name: Vec<u8>,
     pub xs: Vec<i32>,
@@ -271,6 +309,89 @@ pub fn label(_: &[u8], _: &[u8], _: &mut u64, _: &mut u64) -> u32 {
     panic!("{MISSING}")
 }
 
+/// Imports a job into x, y, kinds and thread bytes: 0 or the number of the refusal. The counts are
+/// commands and thread bytes.
+#[cfg(stitch_box)]
+pub fn import_job(
+    job: &[u8],
+    xs: &mut [i32],
+    ys: &mut [i32],
+    kinds: &mut [u8],
+    threads: &mut [u8],
+    counts: [&mut u32; 2],
+) -> u32 {
+    let [commands, thread_bytes] = counts;
+    // SAFETY: each pointer comes with the length of its slice.
+    unsafe {
+        archive::stitch_box_import_job(
+            job.as_ptr(),
+            job.len(),
+            xs.as_mut_ptr(),
+            xs.len(),
+            ys.as_mut_ptr(),
+            ys.len(),
+            kinds.as_mut_ptr(),
+            kinds.len(),
+            threads.as_mut_ptr(),
+            threads.len(),
+            commands,
+            thread_bytes,
+        )
+    }
+}
+
+#[cfg(not(stitch_box))]
+pub fn import_job(
+    _: &[u8],
+    _: &mut [i32],
+    _: &mut [i32],
+    _: &mut [u8],
+    _: &mut [u8],
+    _: [&mut u32; 2],
+) -> u32 {
+    panic!("{MISSING}")
+}
+
+/// Finds a job's name: 0 or the number of the refusal.
+#[cfg(stitch_box)]
+pub fn job_name(job: &[u8], start: &mut u64, length: &mut u64) -> u32 {
+    // SAFETY: the pointer comes with the length of its slice.
+    unsafe { archive::stitch_box_job_name(job.as_ptr(), job.len(), start, length) }
+}
+
+#[cfg(not(stitch_box))]
+pub fn job_name(_: &[u8], _: &mut u64, _: &mut u64) -> u32 {
+    panic!("{MISSING}")
+}
+
+/// Exports a list as a job: 0 or the number of the refusal.
+#[cfg(stitch_box)]
+pub fn export_job(list: &Lists, out: &mut [u8], length: &mut u64) -> u32 {
+    // SAFETY: each pointer comes with the length of its slice.
+    unsafe {
+        archive::stitch_box_export_job(
+            list.name.as_ptr(),
+            list.name.len(),
+            list.xs.as_ptr(),
+            list.xs.len(),
+            list.ys.as_ptr(),
+            list.ys.len(),
+            list.kinds.as_ptr(),
+            list.kinds.len(),
+            list.threads.as_ptr(),
+            list.threads.len(),
+            out.as_mut_ptr(),
+            out.len(),
+            length,
+        )
+    }
+}
+
+#[cfg(not(stitch_box))]
+pub fn export_job(_: &Lists, _: &mut [u8], _: &mut u64) -> u32 {
+    panic!("{MISSING}")
+}
+
 const MISSING: &str = "the port's archive libstitch_box_c.a is missing: make it by \
     `rt staticlib stitch_box_c` in the folder above, or set STITCH_BOX_LIB to the folder that \
     holds it; then touch build.rs and build again";
@@ -327,3 +448,12 @@ impl Cells {
 pub fn ample(n: usize) -> [usize; 3] {
     [n + 2, n / 2, 3 * n / 2]
 }
+
+/// Buffers of these lengths, x, y, kinds and thread bytes, hold whatever a job of `n` bytes can say:
+/// the header's formulas.
+pub fn ample_for_job(n: usize) -> [usize; 4] {
+    [n / 5, n / 5, n / 5, n / 2]
+}
+
+/// No job that is exported is longer, as the header says.
+pub const JOB_BOUND: usize = 329_470;

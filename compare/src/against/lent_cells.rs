@@ -31,6 +31,11 @@ impl<T: Copy + PartialEq + Display> Lent<T> {
         self.cells[GUARD]
     }
 
+    /// So many of the cells that were lent.
+    pub fn front(&self, length: usize) -> &[T] {
+        &self.cells[GUARD..GUARD + length]
+    }
+
     /// The first cell that is not as wanted: this answer at the front, and marks
     /// everywhere else.
     pub fn difference(&self, name: &str, answer: &[T]) -> Option<String> {

@@ -1,5 +1,7 @@
-//! The port's calls against the published Rust and document 01's refusals.
+//! The port's calls against the published Rust and document 01's refusals, and those of jobs against
+//! the plain ones.
 
+pub mod jobs;
 pub mod lent_cells;
 pub mod parts;
 pub mod reads;

@@ -1,8 +1,9 @@
-//! What `against` has compared so far, and its tables.
+//! What `against` and `jobs` have compared so far, and their tables.
 
 use crate::inputs::faulty_lists::Asked;
 use crate::inputs::files::File;
 use crate::oracle::Format;
+use crate::port::Lists;
 use std::collections::BTreeMap;
 
 /// Differences beyond these are counted and not printed.
@@ -22,8 +23,11 @@ const ROWS: [(&str, &str); 7] = [
     ("other", "other extensions"),
 ];
 
+/// The row of jobs, which has a table of its own.
+const JOBS: &str = "job";
+
 /// Numbers that a call may answer: 0 and those of the refusals.
-const NUMBERS: usize = 13;
+const NUMBERS: usize = 15;
 
 /// The port's functions, which are called for a case.
 #[derive(Clone, Copy)]
@@ -33,20 +37,34 @@ pub enum Function {
     Write,
     WriteCmds,
     WriteBound,
+    ImportJob,
+    JobName,
+    ExportJob,
 }
 
-const FUNCTIONS: [&str; 5] = ["read", "label", "write", "write_cmds", "write_bound"];
+const FUNCTIONS: [&str; 8] = [
+    "read",
+    "label",
+    "write",
+    "write_cmds",
+    "write_bound",
+    "import_job",
+    "job_name",
+    "export_job",
+];
 
-/// A case: one file to read or one list to write.
+/// A case: one file to read, one list to write, one job to import or one list to export.
 pub enum Case<'a> {
     Read(&'a File),
     Write(&'a Asked),
+    Import(&'a [u8]),
+    Export(&'a Lists),
 }
 
 /// The calls of one case.
 #[derive(Default)]
 pub struct Calls {
-    functions: [Count; 5],
+    functions: [Count; FUNCTIONS.len()],
     /// What differs, call by call.
     found: Vec<String>,
 }
@@ -64,7 +82,7 @@ struct Count {
 #[derive(Default)]
 pub struct Told {
     pub number: u8,
-    /// Bytes of the file read or written.
+    /// Bytes of the file or job read or written.
     pub length: usize,
     /// Points, runs and blocks read, or commands.
     pub sizes: [usize; 3],
@@ -73,7 +91,7 @@ pub struct Told {
 #[derive(Default)]
 pub struct Tally {
     rows: BTreeMap<&'static str, Row>,
-    functions: [Count; 5],
+    functions: [Count; FUNCTIONS.len()],
     /// The first differences, with the numbers of their case and call.
     found: Vec<(usize, usize, String)>,
     /// The shortest input that differs, for each row, with its size and case.
@@ -115,9 +133,9 @@ impl Calls {
 impl Tally {
     pub fn take(&mut self, row: &'static str, at: usize, case: Case, told: Told, calls: Calls) {
         let known = self.rows.entry(row).or_default();
-        let side = match case {
-            Case::Read(_) => &mut known.reads,
-            Case::Write(_) => &mut known.writes,
+        let side = match case.reads() {
+            true => &mut known.reads,
+            false => &mut known.writes,
         };
         side.take(&told);
         known.calls += calls.functions.iter().map(|count| count.calls).sum::<u64>();
@@ -127,7 +145,7 @@ impl Tally {
             return;
         }
         let size = case.size();
-        let key = (row, matches!(case, Case::Read(_)));
+        let key = (row, case.reads());
         let shorter = |known: &(usize, usize, String)| (size, at) < (known.0, known.1);
         if self.shortest.get(&key).is_none_or(shorter) {
             self.shortest.insert(key, (size, at, case.shown()));
@@ -138,6 +156,11 @@ impl Tally {
                 self.found.push((at, call, what));
             }
         }
+    }
+
+    /// The same of a job.
+    pub fn take_job(&mut self, at: usize, case: Case, told: Told, calls: Calls) {
+        self.take(JOBS, at, case, told, calls);
     }
 
     /// Adds what another thread compared.
@@ -161,7 +184,7 @@ impl Tally {
         }
     }
 
-    fn count(&mut self, functions: &[Count; 5]) {
+    fn count(&mut self, functions: &[Count]) {
         for (known, count) in self.functions.iter_mut().zip(functions) {
             known.calls += count.calls;
             known.differ += count.differ;
@@ -174,12 +197,7 @@ impl Tally {
     }
 
     pub fn print(&self) {
-        for (_, _, what) in &self.found {
-            println!("{what}");
-        }
-        for (_, _, input) in self.shortest.values() {
-            println!("the shortest: {input}");
-        }
+        self.print_found();
         println!("| format | reads | refused | writes | refused | calls | differences |");
         println!("|---|---|---|---|---|---|---|");
         let mut cases = 0;
@@ -199,13 +217,51 @@ impl Tally {
         }
         self.print_sizes();
         self.print_functions();
-        let calls: u64 = self.functions.iter().map(|count| count.calls).sum();
         println!(
             "{} cases, {} calls, {} differences",
             digits(cases),
-            digits(calls),
+            digits(self.calls()),
             digits(self.differences())
         );
+    }
+
+    /// The tables of jobs.
+    pub fn print_jobs(&self) {
+        self.print_found();
+        println!("| what | cases | refused | longest job | commands |");
+        println!("|---|---|---|---|---|");
+        let row = self.rows.get(JOBS).cloned().unwrap_or_default();
+        for (what, side) in [("import", &row.reads), ("export", &row.writes)] {
+            println!(
+                "| {what} | {} | {} | {} | {} |",
+                digits(side.cases),
+                refused(&side.numbers),
+                digits(side.longest as u64),
+                digits(side.sizes[0])
+            );
+        }
+        self.print_functions();
+        println!(
+            "{} jobs, {} lists, {} calls, {} differences",
+            digits(row.reads.cases),
+            digits(row.writes.cases),
+            digits(self.calls()),
+            digits(self.differences())
+        );
+    }
+
+    fn calls(&self) -> u64 {
+        self.functions.iter().map(|count| count.calls).sum()
+    }
+
+    /// The first differences and the shortest inputs that differ.
+    fn print_found(&self) {
+        for (_, _, what) in &self.found {
+            println!("{what}");
+        }
+        for (_, _, input) in self.shortest.values() {
+            println!("the shortest: {input}");
+        }
     }
 
     fn print_sizes(&self) {
@@ -225,12 +281,13 @@ impl Tally {
         }
     }
 
-    /// The calls of each function, and those of all by the number wanted.
+    /// The calls of each function that was called, and those of all by the number wanted.
     fn print_functions(&self) {
         println!("\n| function | calls | by the number wanted | differences |");
         println!("|---|---|---|---|");
         let mut numbers = [0; NUMBERS];
-        for (name, count) in FUNCTIONS.iter().zip(&self.functions) {
+        let functions = FUNCTIONS.iter().zip(&self.functions);
+        for (name, count) in functions.filter(|(_, count)| count.calls > 0) {
             add(&mut numbers, &count.numbers);
             println!(
                 "| {name} | {} | {} | {} |",
@@ -266,10 +323,18 @@ fn add(counts: &mut [u64], more: &[u64]) {
 }
 
 impl Case<'_> {
+    /// Whether bytes are read, not written.
+    fn reads(&self) -> bool {
+        matches!(self, Case::Read(_) | Case::Import(_))
+    }
+
     fn size(&self) -> usize {
+        let of_list = |list: &Lists| list.kinds.len() + list.threads.len();
         match self {
             Case::Read(file) => file.bytes.len(),
-            Case::Write(asked) => asked.list.kinds.len() + asked.list.threads.len(),
+            Case::Write(asked) => of_list(&asked.list),
+            Case::Import(job) => job.len(),
+            Case::Export(list) => of_list(list),
         }
     }
 
@@ -281,10 +346,12 @@ impl Case<'_> {
             }
             Case::Write(asked) => {
                 let ext = String::from_utf8_lossy(&asked.ext);
-                let list = &asked.list;
-                let lengths = [list.xs.len(), list.ys.len(), list.kinds.len()];
-                let threads = list.threads.len();
-                format!("{ext} of {lengths:?} commands, {threads} thread bytes")
+                format!("{ext} of {}", counts(&asked.list))
+            }
+            Case::Import(job) => format!("job of {} bytes", job.len()),
+            Case::Export(list) => {
+                let name = list.name.len();
+                format!("job of {}, a name of {name} bytes", counts(list))
             }
         }
     }
@@ -293,18 +360,27 @@ impl Case<'_> {
     fn shown(&self) -> String {
         let rest = match self {
             Case::Read(file) => hexadecimal(&file.bytes),
-            Case::Write(asked) => {
-                let list = &asked.list;
-                let name = hexadecimal(&list.name);
-                let threads = hexadecimal(&list.threads);
-                let front = |cells: &[i32]| format!("{:?}", &cells[..cells.len().min(SHOWN)]);
-                let (xs, ys) = (front(&list.xs), front(&list.ys));
-                let kinds = hexadecimal(&list.kinds);
-                format!("name {name}\nxs {xs}\nys {ys}\nkinds {kinds}\nthreads {threads}")
-            }
+            Case::Write(asked) => shown_list(&asked.list),
+            Case::Import(job) => hexadecimal(job),
+            Case::Export(list) => shown_list(list),
         };
         format!("{}\n{rest}", self.name())
     }
+}
+
+fn counts(list: &Lists) -> String {
+    let lengths = [list.xs.len(), list.ys.len(), list.kinds.len()];
+    let threads = list.threads.len();
+    format!("{lengths:?} commands, {threads} thread bytes")
+}
+
+fn shown_list(list: &Lists) -> String {
+    let name = hexadecimal(&list.name);
+    let threads = hexadecimal(&list.threads);
+    let front = |cells: &[i32]| format!("{:?}", &cells[..cells.len().min(SHOWN)]);
+    let (xs, ys) = (front(&list.xs), front(&list.ys));
+    let kinds = hexadecimal(&list.kinds);
+    format!("name {name}\nxs {xs}\nys {ys}\nkinds {kinds}\nthreads {threads}")
 }
 
 fn hexadecimal(bytes: &[u8]) -> String {

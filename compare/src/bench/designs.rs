@@ -170,6 +170,30 @@ impl Design {
     }
 }
 
+/// The first design with so many commands, and a thread for each of its blocks.
+pub fn plain(commands: usize) -> List {
+    let [plain, ..] = DESIGNS;
+    let design = Design {
+        stitches: commands,
+        ..plain
+    };
+    let List {
+        name,
+        mut cmds,
+        mut threads,
+    } = design.list();
+    cmds.truncate(commands - 1);
+    let (x, y) = cmds.last().map_or((0, 0), |&(x, y, _)| (x, y));
+    cmds.push((x, y, END));
+    let changes = cmds.iter().filter(|cmd| cmd.2 == CHANGE).count();
+    threads.truncate(changes + 1);
+    List {
+        name,
+        cmds,
+        threads,
+    }
+}
+
 /// A number of a range; a single one is taken without a random number.
 fn any_of(range: &RangeInclusive<i32>, random: &mut Random) -> i32 {
     let (least, greatest) = (*range.start(), *range.end());

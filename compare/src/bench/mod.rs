@@ -1,8 +1,9 @@
 //! Benchmarks: designs written and read, hostile files read, the depth of the
-//! stack, in one run.
+//! stack, in one run; and jobs, in one of their own.
 
 pub mod designs;
 pub mod hostile;
+pub mod jobs;
 pub mod one_call;
 pub mod stack;
 pub mod timing;

@@ -16,7 +16,7 @@ use std::{ptr, slice};
 const SIZE: usize = 2 << 20;
 
 /// No call may go as deep, but for that of records.
-const LIMIT: usize = 512 << 10;
+pub(super) const LIMIT: usize = 512 << 10;
 
 /// That of records may not go as deep as this.
 const LIMIT_CMDS: usize = 1 << 20;
@@ -58,7 +58,7 @@ extern "C" fn start(job: *mut c_void) -> *mut c_void {
 }
 
 /// How many bytes of stack a call takes.
-fn depth(call: &mut dyn FnMut()) -> usize {
+pub(super) fn depth(call: &mut dyn FnMut()) -> usize {
     let layout = Layout::from_size_align(SIZE, 4096).expect("a size of whole pages");
     let mut job = Job { call, top: 0 };
     // SAFETY: the stack is ours, as large as told, and outlives the thread.

@@ -22,7 +22,7 @@ unsafe extern "C" {
 }
 
 /// The time that the thread has run for, in microseconds.
-fn now() -> f64 {
+pub(super) fn now() -> f64 {
     let mut time = Clock {
         seconds: 0,
         nanoseconds: 0,
@@ -42,7 +42,7 @@ pub struct Times {
 }
 
 impl Times {
-    fn new(mut rust: Vec<f64>, mut port: Vec<f64>) -> Times {
+    pub(super) fn new(mut rust: Vec<f64>, mut port: Vec<f64>) -> Times {
         let pairs = rust.iter().zip(&port);
         let mut ratios: Vec<f64> = pairs.map(|(rust, port)| rust / port).collect();
         for times in [&mut rust, &mut port, &mut ratios] {
@@ -60,6 +60,11 @@ impl Times {
     /// The port's shortest time.
     pub fn shortest(&self) -> f64 {
         self.port[0]
+    }
+
+    /// The Rust's shortest time.
+    pub fn shortest_of_rust(&self) -> Option<f64> {
+        self.rust.first().copied()
     }
 
     /// The Rust's time over the port's: the median of the rounds, and that of the

@@ -1,4 +1,4 @@
-//! What is asked: lists to write, files to read, questions to single functions, and
+//! What is asked: lists to write, files to read, jobs, questions to single functions, and
 //! document 01's samples.
 
 pub mod bit_pairs;
@@ -10,11 +10,14 @@ pub mod hard_files;
 pub mod hard_lists;
 pub mod headers;
 pub mod hostile_files;
+pub mod job_lists;
+pub mod jobs;
 pub mod jump_rows;
 pub mod leaf_questions;
 pub mod lists;
 pub mod long_files;
 pub mod non_ascii;
+pub mod random_jobs;
 pub mod records;
 pub mod samples;
 pub mod thumbnail_designs;

@@ -34,12 +34,19 @@ pub fn of(asked: &Asked) -> u8 {
     let Some(format) = format(&asked.ext) else {
         return 1;
     };
+    match of_list(list) {
+        0 if steps_too_far(format, list) => 10,
+        number => number,
+    }
+}
+
+/// The same of those that go by no format: 6 to 9.
+pub fn of_list(list: &Lists) -> u8 {
     let conditions = [
         (6, is_no_list(list)),
         (7, leads_outside(list)),
         (8, has_too_many(list)),
         (9, moves_standing(list)),
-        (10, steps_too_far(format, list)),
     ];
     let first = conditions.into_iter().find(|&(_, holds)| holds);
     first.map_or(0, |(number, _)| number)

@@ -21,3 +21,4 @@ pub mod Places
 pub mod Vp3Reading
 pub mod Vp3Lengths
 pub mod Vp3Fields
+pub mod Jobs

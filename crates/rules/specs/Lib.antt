@@ -18,8 +18,10 @@ pub mod Formats
 pub mod Refusals
 pub mod Answers
 pub mod Files
+pub mod Jobs
 pub mod Sewing
 pub mod Promises
 pub mod Samples
 pub mod Vectors
 pub mod Edges
+pub mod JobEdges

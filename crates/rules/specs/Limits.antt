@@ -23,6 +23,14 @@ longestFile = 2097152
 abbrev pub dstHeader : ℕ
 dstHeader = 512
 
+-- bytes of a job's name
+abbrev pub longestName : ℕ
+longestName = 64
+
+-- commands that are exported to a field of a job
+abbrev pub fieldCommands : ℕ
+fieldCommands = 1000
+
 -- cells of a block's record: number, colour, runs
 abbrev pub blockCells : ℕ
 blockCells = 3

@@ -15,6 +15,8 @@ use Rattle.rules.specs.Refusals.{numberOf, listVerdict}
 use Rattle.rules.specs.Files.{fileOf, fileTold, writeVerdict, writeAnswer, writeNumber, writeLength, filled}
 use Rattle.rules.specs.Files.{placesOf, runsOf, blocksOf, placesTold, runsTold, blocksTold, cutsTold, countsOf}
 use Rattle.rules.specs.Files.{fileVerdict, readVerdict, readAnswer, readNumber, readCounts, labelTold}
+use Rattle.rules.specs.Jobs.{jobXs, jobYs, jobKinds, jobThreads, jobVerdict, jobCounts, importVerdict, importAnswer, importNumber, importCounts}
+use Rattle.rules.specs.Jobs.{jobNameTold, jobNameStart, jobOf, exportVerdict}
 use Rattle.rules.specs.Sewing.{listSewing, toldSewing, listNeedles, toldNeedles}
 use Rattle.rules.specs.declared.Cmd.{Cmd}
 use Rattle.rules.specs.declared.Counts.{Counts}
@@ -22,6 +24,7 @@ use Rattle.rules.specs.declared.Extension.{Extension}
 use Rattle.rules.specs.declared.Extension.the-variants.{Of, Unknown}
 use Rattle.rules.specs.declared.Format.{Format}
 use Rattle.rules.specs.declared.Format.the-variants.{Pes, Pec, Dst, Exp, Jef, Vp3}
+use Rattle.rules.specs.declared.ImportAnswer.{ImportAnswer}
 use Rattle.rules.specs.declared.ReadAnswer.{ReadAnswer}
 use Rattle.rules.specs.declared.RoundTripAnswer.{RoundTripAnswer}
 use Rattle.rules.specs.declared.RoundTripAnswer.the-variants.{NotWritten, NotRead, ReadBack}
@@ -114,6 +117,53 @@ LabelAt (Refused r) file label start len = (start ≡ 0) × (len ≡ 0)
 pub record LabelNumbers (e : Extension) (file : List ℕ) (n start len : ℕ) : Type 0 where
   pub number : n ≡ verdictNumber (fileVerdict e file)
   pub place : LabelAt (fileVerdict e file) file (labelTold e file) start len
+
+-- ---- jobs
+
+module _ (job : List ℕ) (xs ys : List ℤ) (kinds threads : List ℕ) where
+  abbrev pub imports : Verdict
+  imports = importVerdict job (length xs) (length ys) (length kinds) (length threads)
+
+  -- `import_job`, where the buffers are `xs′`, `ys′`, `kinds′` and `threads′` at exit
+  pub record ImportedOf (xs′ ys′ : List ℤ) (kinds′ threads′ : List ℕ) (r : ImportAnswer) : Type 0 where
+    pub answered : r ≡ importAnswer imports (jobCounts job)
+    pub xs-are : xs′ ≡ filled imports (jobXs job) xs
+    pub ys-are : ys′ ≡ filled imports (jobYs job) ys
+    pub kinds-are : kinds′ ≡ filled imports (jobKinds job) kinds
+    pub threads-are : threads′ ≡ filled imports (jobThreads job) threads
+
+  -- `stitch_box_import_job`: the answer's number, 0 without a refusal, and the two counts, 0 with one
+  pub record ImportedNumbers (xs′ ys′ : List ℤ) (kinds′ threads′ : List ℕ) (n commands-n thread-bytes-n : ℕ) : Type 0 where
+    pub answer : ImportAnswer
+    pub imported : ImportedOf xs′ ys′ kinds′ threads′ answer
+    pub number : n ≡ importNumber answer
+    pub command-count : commands-n ≡ importCounts answer .commands
+    pub thread-byte-count : thread-bytes-n ≡ importCounts answer .«thread_bytes»
+
+-- `stitch_box_job_name`: the number of the refusal, which is none but 11, and where the name stands
+pub record JobNameNumbers (job : List ℕ) (n start len : ℕ) : Type 0 where
+  pub number : n ≡ verdictNumber (jobVerdict job)
+  pub starts : start ≡ jobNameStart (jobVerdict job)
+  pub long : len ≡ length (jobNameTold job)
+  pub text : take len (drop start job) ≡ jobNameTold job
+
+module _ (name : List ℕ) (xs ys : List ℤ) (kinds threads out : List ℕ) where
+  -- `export_job`, where the buffer is `out` at entry and `out′` at exit
+  pub record Exported (out′ : List ℕ) (w : WriteAnswer) : Type 0 where
+    pub answered : w ≡ writeAnswer
+        (exportVerdict name xs ys kinds threads (length out))
+        (length (jobOf name (commands xs ys kinds) threads))
+    pub stored : out′ ≡ filled
+        (exportVerdict name xs ys kinds threads (length out))
+        (jobOf name (commands xs ys kinds) threads)
+        out
+
+  -- `stitch_box_export_job`: the answer's number, 0 without a refusal, and the length of the job, 0 with one
+  pub record ExportedNumbers (out′ : List ℕ) (n len : ℕ) : Type 0 where
+    pub answer : WriteAnswer
+    pub exported : Exported out′ answer
+    pub number : n ≡ writeNumber answer
+    pub size : len ≡ writeLength answer
 
 -- ---- writing and reading back
 

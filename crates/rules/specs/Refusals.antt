@@ -15,7 +15,7 @@ use Rattle.rules.specs.declared.Extension.{Extension}
 use Rattle.rules.specs.declared.Extension.the-variants.{Of, Unknown}
 use Rattle.rules.specs.declared.Refusal.{Refusal}
 use Rattle.rules.specs.declared.Refusal.the-variants.{UnknownExtension, FileTooLong, BadOpening, FileTooShort, StartBelowZero, BadList, PlaceOutside, TooMany, Moved}
-use Rattle.rules.specs.declared.Refusal.the-variants.{StepTooLong, BufferTooShort, OutOfRange}
+use Rattle.rules.specs.declared.Refusal.the-variants.{StepTooLong, BufferTooShort, OutOfRange, BadTag, BadLength}
 use Rattle.rules.specs.declared.Verdict.{Verdict}
 use Rattle.rules.specs.declared.Verdict.the-variants.{Accepted, Refused}
 
@@ -33,6 +33,8 @@ numberOf Moved = 9
 numberOf StepTooLong = 10
 numberOf BufferTooShort = 11
 numberOf OutOfRange = 12
+numberOf BadTag = 13
+numberOf BadLength = 14
 
 -- An extension is compared without regard to ASCII case.
 unfoldable pub lower : ℕ → ℕ

@@ -54,7 +54,7 @@ pub enum Previous {
     Entry(usize, Color),
 }
 
-// Why a call refuses, in the order of the numbers 1 to 12.
+// Why a call refuses, in the order of the numbers 1 to 14.
 pub enum Refusal {
     UnknownExtension,
     FileTooLong,
@@ -68,6 +68,8 @@ pub enum Refusal {
     StepTooLong,
     BufferTooShort,
     OutOfRange,
+    BadTag,
+    BadLength,
 }
 
 // What the checks say.
@@ -103,6 +105,18 @@ pub enum RoundTripAnswer {
     ReadBack(usize, Counts),
 }
 
+// How much a job holds: commands, and bytes of threads.
+pub struct JobCounts {
+    pub commands: u32,
+    pub thread_bytes: u32,
+}
+
+// What the import of a job answers.
+pub enum ImportAnswer {
+    Imported(JobCounts),
+    NotImported(Refusal),
+}
+
 // What the first record of a list of bytes does, by how far it moves, and the bytes it takes.
 pub enum Record {
     StitchBy { dx: i32, dy: i32, len: usize },
@@ -133,6 +147,11 @@ pub const GREATEST_PLACE: i32 = 16000;
 pub const LONGEST_FILE: usize = 2097152;
 
 pub const DST_HEADER: usize = 512;
+
+// The bytes of a job's name, and the commands that are exported to a field of a job.
+pub const LONGEST_NAME: usize = 64;
+
+pub const FIELD_COMMANDS: usize = 1000;
 
 // The cells of a block's record: number, colour, runs.
 pub const BLOCK_CELLS: usize = 3;

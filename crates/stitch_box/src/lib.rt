@@ -8,6 +8,7 @@ use pes::write_pec_file;
 use rules::DST_HEADER;
 use rules::Extension;
 use rules::Format;
+use rules::ImportAnswer;
 use rules::MOST_CHANGES;
 use rules::MOST_COMMANDS;
 use rules::MOST_THREADS;
@@ -19,7 +20,8 @@ use vp3::write_vp3;
 ghost use mathlib.Core.Path.{_≡_};
 ghost use Prim.Native.Nat.{_≤_, min};
 ghost use Rattle.rules.specs.Files.{labelTold};
-ghost use Rattle.rules.specs.Promises.{was, left, Wrote, boundOf, boundTold, ReadOf};
+ghost use Rattle.rules.specs.Jobs.{jobNameTold};
+ghost use Rattle.rules.specs.Promises.{was, left, Wrote, boundOf, boundTold, ReadOf, ImportedOf, Exported};
 ghost use Rattle.rules.specs.Refusals.{extensionOf};
 ghost use Rattle.rules.specs.declared.Extension.the-variants.{Of};
 ghost use Rattle.stitch_box.specs.Back.{ReadBackOf, WritesAndReads};
@@ -167,4 +169,40 @@ pub fn write_and_read(
         WriteAnswer::Written(n) => read_back(n, ext, &file[..n], places, runs, blocks),
         WriteAnswer::Unwritten(why) => RoundTripAnswer::NotWritten(why),
     }
+}
+
+// Imports a job into four buffers: how much it holds, and cells behind the answers stay; or why it is refused, and the buffers as they
+// were.
+pub fn import_job(
+    job: &[u8],
+    xs: &mut [i32],
+    ys: &mut [i32],
+    kinds: &mut [u8],
+    threads: &mut [u8],
+) -> ImportAnswer
+    ensures { λ r. ⌜ ImportedOf (was job) (was xs) (was ys) (was kinds) (was threads) (left xs) (left ys) (left kinds) (left threads) r ⌝ }
+{
+    import_job::import_job(job, xs, ys, kinds, threads)
+}
+
+// The name of a job, as a part of it: empty under every refusal of importing but 11.
+pub fn job_name(job: &[u8]) -> &[u8]
+    ensures { λ r. ⌜ now r ≡ jobNameTold (was job) ⌝ }
+{
+    import_job::job_name(job)
+}
+
+// Exports a list and its threads as a job with a name, to the front of the buffer: the job's length, and cells behind it stay; or why it is
+// refused, and the buffer as it was.
+pub fn export_job(
+    name: &[u8],
+    xs: &[i32],
+    ys: &[i32],
+    kinds: &[u8],
+    threads: &[u8],
+    out: &mut [u8],
+) -> WriteAnswer
+    ensures { λ w. ⌜ Exported (was name) (was xs) (was ys) (was kinds) (was threads) (was out) (left out) w ⌝ }
+{
+    export_job::export_job(name, xs, ys, kinds, threads, out)
 }

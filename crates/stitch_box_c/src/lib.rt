@@ -2,14 +2,17 @@
 use read_refusals::LabelAnswer;
 use rules::Cmd;
 use rules::Counts;
+use rules::ImportAnswer;
+use rules::JobCounts;
 use rules::ReadAnswer;
 use rules::WriteAnswer;
 use write_refusals::number;
 ghost use mathlib.Core.Path.{_≡_};
 ghost use Rattle.rules.specs.Files.{readNumber, readCounts, writeNumber, writeLength};
-ghost use Rattle.rules.specs.Promises.{was, left, WroteNumbers, boundTold, LabelNumbers};
+ghost use Rattle.rules.specs.Jobs.{importNumber, importCounts};
+ghost use Rattle.rules.specs.Promises.{was, left, WroteNumbers, boundTold, LabelNumbers, JobNameNumbers, ExportedNumbers};
 ghost use Rattle.rules.specs.Refusals.{extensionOf};
-ghost use Rattle.stitch_box_c.specs.Exports.{labelNumber, labelStart, labelLength, ReadsNumbers, WroteCmdsNumbers};
+ghost use Rattle.stitch_box_c.specs.Exports.{labelNumber, labelStart, labelLength, ReadsNumbers, WroteCmdsNumbers, ImportsNumbers};
 
 // The four counts of an answer, 0 under a refusal.
 fn counts_of(answer: ReadAnswer) -> Counts
@@ -148,4 +151,73 @@ pub extern "C" fn stitch_box_write_bound(ext: &[u8], commands: usize, threads: u
     ensures { λ r. ⌜ r ≡ boundTold (extensionOf (was ext)) commands threads ⌝ }
 {
     stitch_box::write_bound(ext, commands, threads)
+}
+
+// The two counts of an import, 0 under a refusal.
+fn job_counts(answer: ImportAnswer) -> JobCounts
+    ensures { λ n. ⌜ n ≡ importCounts answer ⌝ }
+{
+    match answer {
+        ImportAnswer::Imported(n) => n,
+        ImportAnswer::NotImported(_) => JobCounts {
+            commands: 0,
+            thread_bytes: 0,
+        },
+    }
+}
+
+// The number of an import, 0 without a refusal.
+fn import_number(answer: ImportAnswer) -> u32
+    ensures { λ r. ⌜ r ≡ importNumber answer ⌝ }
+{
+    match answer {
+        ImportAnswer::Imported(_) => 0,
+        ImportAnswer::NotImported(why) => number(why),
+    }
+}
+
+// `import_job`; the counts become 0 under a refusal.
+#[no_mangle]
+pub extern "C" fn stitch_box_import_job(
+    job: &[u8],
+    xs: &mut [i32],
+    ys: &mut [i32],
+    kinds: &mut [u8],
+    threads: &mut [u8],
+    command_count: &mut u32,
+    thread_bytes: &mut u32,
+) -> u32
+    ensures { λ r. ⌜ ImportsNumbers (was job) xs ys kinds threads r «command_count» «thread_bytes» ⌝ }
+{
+    let answer = stitch_box::import_job(job, xs, ys, kinds, threads);
+    let n = job_counts(answer);
+    *command_count = n.commands;
+    *thread_bytes = n.thread_bytes;
+    import_number(answer)
+}
+
+// `job_name`, as a place in the job: where it starts and its length, both 0 under a refusal.
+#[no_mangle]
+pub extern "C" fn stitch_box_job_name(job: &[u8], start: &mut u64, length: &mut u64) -> u32
+    ensures { λ r. ⌜ JobNameNumbers (was job) r (left start) (left length) ⌝ }
+{
+    let answer = import_job::job_name_answer(job);
+    put_label(answer, start, length)
+}
+
+// `export_job`; the length of the job becomes 0 under a refusal.
+#[no_mangle]
+pub extern "C" fn stitch_box_export_job(
+    name: &[u8],
+    xs: &[i32],
+    ys: &[i32],
+    kinds: &[u8],
+    threads: &[u8],
+    out: &mut [u8],
+    length: &mut u64,
+) -> u32
+    ensures { λ r. ⌜ ExportedNumbers (was name) (was xs) (was ys) (was kinds) (was threads) (was out) (left out) r (left length) ⌝ }
+{
+    let answer = stitch_box::export_job(name, xs, ys, kinds, threads, out);
+    put_length(answer, length)
 }

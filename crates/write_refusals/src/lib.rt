@@ -1,4 +1,4 @@
-// What is asked of a list of commands and its threads before it is written: refusals 6 to 10.
+// What is asked of a list of commands and its threads before it is written or exported: refusals 6 to 10.
 // Each check goes over the whole list, for slices of any lengths, with no early exit: so its loop compiles to vector instructions.
 use rules::Format;
 use rules::GREATEST_PLACE;
@@ -36,6 +36,8 @@ pub fn number(r: Refusal) -> u32
         Refusal::StepTooLong => 10,
         Refusal::BufferTooShort => 11,
         Refusal::OutOfRange => 12,
+        Refusal::BadTag => 13,
+        Refusal::BadLength => 14,
     }
 }
 
@@ -102,7 +104,7 @@ pub fn bad_list(xs: &[i32], ys: &[i32], kinds: &[u8]) -> bool
     !ends_once(kinds)
 }
 
-fn is_placed(x: i32, y: i32) -> bool
+pub fn is_placed(x: i32, y: i32) -> bool
     ensures { λ r. ⌜ r ≡ placed x y ⌝ }
 {
     is_between(LEAST_PLACE, GREATEST_PLACE, x) & is_between(LEAST_PLACE, GREATEST_PLACE, y)
@@ -123,7 +125,7 @@ pub fn place_outside(xs: &[i32], ys: &[i32], kinds: &[u8]) -> bool
 }
 
 // Kind 3.
-fn is_change(kind: u8) -> bool
+pub fn is_change(kind: u8) -> bool
     ensures { λ r. ⌜ r ≡ isChange (opOf kind) ⌝ }
 {
     kind == 3
@@ -171,7 +173,7 @@ fn is_same_place(x0: i32, y0: i32, x: i32, y: i32) -> bool
     is_same(x0, x) & is_same(y0, y)
 }
 
-fn moves(kind: u8, x0: i32, y0: i32, x: i32, y: i32) -> bool
+pub fn moves(kind: u8, x0: i32, y0: i32, x: i32, y: i32) -> bool
     ensures { λ r. ⌜ r ≡ (stands (opOf kind) && not (samePlace x0 y0 x y)) ⌝ }
 {
     is_standing(kind) & !is_same_place(x0, y0, x, y)

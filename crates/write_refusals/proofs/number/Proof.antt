@@ -1,4 +1,4 @@
--- Each of the twelve refusals answers its own number.
+-- Each of the fourteen refusals answers its own number.
 use Rattle.rules.specs.Refusals.{numberOf}
 use borrow.Author.Needs.{needs}
 use Rattle.write_refusals.proofs.number.Statement.{statement}
@@ -13,4 +13,5 @@ number-spec =
     (λ c. search needs) (λ c. search needs) (λ c. search needs) (λ c. search needs) (λ c. search needs)
     (λ c. search needs) (λ c. search needs) (λ c. search needs) (λ c. search needs) (λ c. search needs)
     (λ c. search needs) (λ c. search needs) (λ c. search needs) (λ c. search needs) (λ c. search needs)
-    (λ c. search needs) (λ c. search needs) (λ c. search needs) (λ c. search needs))
+    (λ c. search needs) (λ c. search needs) (λ c. search needs) (λ c. search needs) (λ c. search needs)
+    (λ c. search needs) (λ c. search needs) (λ c. search needs))

@@ -1,0 +1,5 @@
+pub mod Walked
+pub mod Contents
+pub mod Rows
+pub mod Filled
+pub mod Imported

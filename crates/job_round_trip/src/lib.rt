@@ -1,0 +1,1 @@
+// The theorem stands in specs/; there is no code here.
