@@ -262,9 +262,16 @@ fn places() -> Vec<Vec<u8>> {
     jobs
 }
 
-/// About 1,000 and 2,000 commands, in fields of several lengths, with and without empty ones between.
+/// About 1,000 and 2,000 commands, in fields of several lengths, with and without empty ones between;
+/// and every count from 999 to 2,001, 1,000 commands to a field and all in one.
 fn counts() -> Vec<Vec<u8>> {
     let mut jobs = Vec::new();
+    for count in 999..=2_001 {
+        let cmds = stitches(count);
+        for size in [1_000, FULL] {
+            jobs.push(job(b"count", &[], cmds.chunks(size)));
+        }
+    }
     for count in [998, 999, 1_000, 1_001, 1_999, 2_000, 2_001] {
         let cmds = stitches(count);
         for size in [1, 7, 999, 1_000, 1_001, FULL] {
