@@ -30,6 +30,7 @@ ghost use lib.Dec.{eqb};
 ghost use lib.IntN.{pos, natAbs};
 ghost use lib.ListN.{length, getD, replicate};
 ghost use lib.Signed.{nonNeg};
+ghost use Rattle.rules.specs.Files.{writeAnswer};
 ghost use Rattle.rules.specs.Vocabulary.{pick, count, padded, right};
 ghost use Rattle.rules.specs.Lists.{commands, opOf, isTrim, dstName};
 ghost use Rattle.rules.specs.Dst.{line, signedRight, dstText, dstFile};
@@ -198,7 +199,7 @@ fn put_file(name: &[u8], xs: &[i32], ys: &[i32], kinds: &[u8], out: &mut [u8]) -
 // The file, or refusal 11.
 fn write_accepted(name: &[u8], xs: &[i32], ys: &[i32], kinds: &[u8], out: &mut [u8]) -> WriteAnswer
     requires { ⌜ (length (now kinds) ≤ 65535) × (stepTooLong Dst (commands (now xs) (now ys) (now kinds)) ≡ false) ⌝ }
-    ensures { λ r. ⌜ Answered (dstFile (was name) (commands (was xs) (was ys) (was kinds))) (was out) (left out) r ⌝ }
+    ensures { λ r. ⌜ Answered writeAnswer (dstFile (was name) (commands (was xs) (was ys) (was kinds))) (was out) (left out) r ⌝ }
 {
     let n = DST_HEADER + stream_len(Stream::Dst, xs, ys, kinds);
     if out.len() < n {

@@ -33,16 +33,25 @@ pub fits : {n room long : ℕ} → n ≤ room → long ≡ n → long ≤ room
 fits h e = rw e h
 
 module _ {file d : List ℕ} {n : ℕ} where
-  pub written : {d′ : List ℕ} {r : ℕ} → n ≤ length d → length file ≡ n → Put d d′ 0 r file → Answered file d d′ (Written r)
-  unfolding roomVerdict verdict writeAnswer filled
-  written h e p =
-      let v = le-ltb (length d) (length file) (fits h e) in
-      let q = put-front (fits h e) p in
-      record { told = rw (v, q .0); stored = rw v (q .1) }
+  module _ {A : Type 0} (answer : Verdict → ℕ → A) where
+    pub put-all : {d′ : List ℕ} {r : ℕ} → n ≤ length d → length file ≡ n → Put d d′ 0 r file → Answered answer file d d′ (answer Accepted r)
+    unfolding roomVerdict verdict filled
+    put-all h e p =
+        let v = le-ltb (length d) (length file) (fits h e) in
+        let q = put-front (fits h e) p in
+        record { told = rw (v, q .0); stored = rw v (q .1) }
 
-  pub unwritten : length d < n → length file ≡ n → Answered file d d (Unwritten BufferTooShort)
-  unfolding roomVerdict verdict writeAnswer filled
-  unwritten h e = let v = lt-ltb (length d) (length file) (rw e h) in record { told = rw v; stored = rw v }
+    pub no-room : length d < n → length file ≡ n → Answered answer file d d (answer (Refused BufferTooShort) (length file))
+    unfolding roomVerdict verdict filled
+    no-room h e = let v = lt-ltb (length d) (length file) (rw e h) in record { told = rw v; stored = rw v }
+
+  pub written : {d′ : List ℕ} {r : ℕ} → n ≤ length d → length file ≡ n → Put d d′ 0 r file → Answered writeAnswer file d d′ (Written r)
+  unfolding writeAnswer
+  written h e p = put-all writeAnswer h e p
+
+  pub unwritten : length d < n → length file ≡ n → Answered writeAnswer file d d (Unwritten BufferTooShort)
+  unfolding writeAnswer
+  unwritten h e = no-room writeAnswer h e
 
 -- ---- the checks: v is what they told
 
@@ -60,7 +69,7 @@ module _ {f : Format} {name : List ℕ} {xs ys : List ℤ} {kinds threads d : Li
 
   -- the list is accepted, and its room decides
   pub wrote : {d′ : List ℕ} {r : WriteAnswer} → v ≡ listVerdict f xs ys kinds threads → v ≡ Accepted
-      → Answered (fileOf f name (commands xs ys kinds) threads) d d′ r → Wrote (Of f) name xs ys kinds threads d d′ r
+      → Answered writeAnswer (fileOf f name (commands xs ys kinds) threads) d d′ r → Wrote (Of f) name xs ys kinds threads d d′ r
   unfolding listVerdict writeVerdict roomVerdict fileTold
   wrote t e a =
       let rs = listRefusals f xs ys kinds threads in

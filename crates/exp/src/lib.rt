@@ -13,6 +13,7 @@ ghost use mathlib.Core.Bool.{false};
 ghost use mathlib.Core.List.{[]};
 ghost use Prim.Native.Nat.{_≤_};
 ghost use lib.ListN.{length};
+ghost use Rattle.rules.specs.Files.{writeAnswer};
 ghost use Rattle.rules.specs.Lists.{commands};
 ghost use Rattle.rules.specs.Exp.{expFile};
 ghost use Rattle.rules.specs.Refusals.{stepTooLong};
@@ -24,7 +25,7 @@ ghost use Rattle.emit.specs.Answered.{Answered};
 // The file, or refusal 11.
 fn write_accepted(xs: &[i32], ys: &[i32], kinds: &[u8], out: &mut [u8]) -> WriteAnswer
     requires { ⌜ (length (now kinds) ≤ 65535) × (stepTooLong Exp (commands (now xs) (now ys) (now kinds)) ≡ false) ⌝ }
-    ensures { λ r. ⌜ Answered (expFile (commands (was xs) (was ys) (was kinds))) (was out) (left out) r ⌝ }
+    ensures { λ r. ⌜ Answered writeAnswer (expFile (commands (was xs) (was ys) (was kinds))) (was out) (left out) r ⌝ }
 {
     let n = stream_len(Stream::Exp, xs, ys, kinds);
     if out.len() < n {

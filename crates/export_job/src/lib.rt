@@ -4,18 +4,18 @@ use emit::put;
 use emit::put_short;
 use emit::put_text;
 use formats::list_len;
+use rules::ExportAnswer;
 use rules::FIELD_COMMANDS;
 use rules::LONGEST_NAME;
 use rules::Refusal;
 use rules::Verdict;
-use rules::WriteAnswer;
 use write_refusals::check_commands;
 ghost use mathlib.Core.Path.{_≡_};
 ghost use Prim.Native.Nat.{_+_, _-_, _*_, _/_, _≤_, min};
 ghost use lib.IntN.{natAbs};
 ghost use lib.ListN.{length};
 ghost use Rattle.rules.specs.Lists.{commands};
-ghost use Rattle.rules.specs.Jobs.{fieldOf, rowOfCmd, threadFields, commandFields, jobOf};
+ghost use Rattle.rules.specs.Jobs.{fieldOf, rowOfCmd, threadFields, commandFields, jobOf, exportAnswer};
 ghost use Rattle.rules.specs.Promises.{was, left, Exported};
 ghost use Rattle.laws.specs.Buffers.{Puts};
 ghost use Rattle.emit.specs.Answered.{Answered};
@@ -127,18 +127,18 @@ fn export_accepted(
     kinds: &[u8],
     threads: &[u8],
     out: &mut [u8],
-) -> WriteAnswer
+) -> ExportAnswer
     requires { ⌜ Known (now xs) (now ys) (now kinds) × ((length (now name) ≤ 64) × (length (now threads) / 3 ≤ 255)) ⌝ }
-    ensures { λ r. ⌜ Answered (jobOf (was name) (commands (was xs) (was ys) (was kinds)) (was threads)) (was out) (left out) r ⌝ }
+    ensures { λ r. ⌜ Answered exportAnswer (jobOf (was name) (commands (was xs) (was ys) (was kinds)) (was threads)) (was out) (left out) r ⌝ }
 {
     let n = job_len(name.len(), list_len(xs, ys, kinds), threads.len());
     if out.len() < n {
-        return WriteAnswer::Unwritten(Refusal::BufferTooShort);
+        return ExportAnswer::NotExported(Refusal::BufferTooShort);
     }
     let first = put_field(1, name, out, 0);
     let second = put_threads(threads, out, first);
     let end = put_list(xs, ys, kinds, out, second);
-    WriteAnswer::Written(end)
+    ExportAnswer::Exported(end)
 }
 
 // Exports a list and its threads as a job with a name, to the front of the buffer: the job's length, and cells behind it stay; or why it is
@@ -150,15 +150,15 @@ pub fn export_job(
     kinds: &[u8],
     threads: &[u8],
     out: &mut [u8],
-) -> WriteAnswer
+) -> ExportAnswer
     ensures { λ w. ⌜ Exported (was name) (was xs) (was ys) (was kinds) (was threads) (was out) (left out) w ⌝ }
 {
     if LONGEST_NAME < name.len() {
-        return WriteAnswer::Unwritten(Refusal::BadLength);
+        return ExportAnswer::NotExported(Refusal::BadLength);
     }
     let checked = check_commands(xs, ys, kinds, threads);
     match checked {
         Verdict::Accepted => export_accepted(name, xs, ys, kinds, threads, out),
-        Verdict::Refused(why) => WriteAnswer::Unwritten(why),
+        Verdict::Refused(why) => ExportAnswer::NotExported(why),
     }
 }

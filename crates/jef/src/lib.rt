@@ -27,6 +27,7 @@ ghost use mathlib.Core.List.{[], _∷_};
 ghost use Prim.Native.Nat.{_+_, _*_, _≤_};
 ghost use lib.Dec.{ltb};
 ghost use lib.ListN.{length, replicate};
+ghost use Rattle.rules.specs.Files.{writeAnswer};
 ghost use Rattle.rules.specs.Choices.{jefEntries};
 ghost use Rattle.rules.specs.Jef.{pointsIn, pointCount, jefHoop, halfUp, edges, jefTable, words, jefHeader, jefFile};
 ghost use Rattle.rules.specs.Lists.{commands, threadsOf};
@@ -242,7 +243,7 @@ fn write_accepted(
 ) -> WriteAnswer
     requires { ⌜ (length (now kinds) ≤ 65535) × ((length (now threads) ≤ 765) × (stepTooLong Jef (commands (now xs) (now ys) (now kinds)) ≡ false)) ⌝ }
     requires { ⌜ placeOutside (commands (now xs) (now ys) (now kinds)) ≡ false ⌝ }
-    ensures { λ r. ⌜ Answered (jefFile (commands (was xs) (was ys) (was kinds)) (threadsOf (was threads))) (was out) (left out) r ⌝ }
+    ensures { λ r. ⌜ Answered writeAnswer (jefFile (commands (was xs) (was ys) (was kinds)) (threadsOf (was threads))) (was out) (left out) r ⌝ }
 {
     let n = 116 + 8 * table_len(threads) + stream_len(Stream::Jef, xs, ys, kinds);
     if out.len() < n {

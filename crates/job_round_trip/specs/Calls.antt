@@ -11,16 +11,17 @@ use lib.ListN.{length, take, drop, length-map}
 use lib.Seq.{take-append-seam, drop-append-seam}
 use Rattle.rules.specs.Limits.{longestName}
 use Rattle.rules.specs.Refusals.{verdict, commandVerdict}
-use Rattle.rules.specs.Files.{filled, labelUnder, writeAnswer, writeNumber, writeLength}
+use Rattle.rules.specs.Files.{filled, labelUnder}
 use Rattle.rules.specs.Jobs.{jobXs, jobYs, jobKinds, jobCommands, jobVerdict, jobCounts, jobNameTold, exportRefusals, exportVerdict}
+use Rattle.rules.specs.Jobs.{exportAnswer, exportNumber, exportLength}
 use Rattle.rules.specs.Jobs.{importVerdict, importAnswer, importNumber, importCounts}
 use Rattle.rules.specs.Promises.{verdictNumber, Exported, ImportedOf}
 use Rattle.rules.specs.declared.Cmd.{Cmd}
+use Rattle.rules.specs.declared.ExportAnswer.{ExportAnswer}
+use Rattle.rules.specs.declared.ExportAnswer.the-variants.{Exported as Sent}
 use Rattle.rules.specs.declared.ImportAnswer.{ImportAnswer}
 use Rattle.rules.specs.declared.ImportAnswer.the-variants.{Imported}
 use Rattle.rules.specs.declared.Verdict.the-variants.{Accepted}
-use Rattle.rules.specs.declared.WriteAnswer.{WriteAnswer}
-use Rattle.rules.specs.declared.WriteAnswer.the-variants.{Written}
 use Rattle.laws.specs.Verdicts.{verdict-on}
 use Rattle.job_round_trip.specs.Theorem.{jobFor, Back, imports-back, import-accepted, Same, same-job}
 
@@ -43,7 +44,7 @@ pub record Trip : Type 0 where
   pub bk′ : List ℕ
   pub bt : List ℕ
   pub bt′ : List ℕ
-  pub w : WriteAnswer
+  pub w : ExportAnswer
   pub r : ImportAnswer
   pub short : length name ≤ longestName
   pub accepted : commandVerdict xs ys kinds threads ≡ Accepted
@@ -53,11 +54,11 @@ pub record Trip : Type 0 where
   pub kind-cells : length kinds ≤ length bk
   pub thread-cells : length threads ≤ length bt
   pub exported : Exported name xs ys kinds threads out out′ w
-  pub imported : ImportedOf (take (writeLength w) out′) bx by bk bt bx′ by′ bk′ bt′ r
+  pub imported : ImportedOf (take (exportLength w) out′) bx by bk bt bx′ by′ bk′ bt′ r
 
 -- the job, and the counts that its import reports
 abbrev pub job : Trip → List ℕ
-job t = take (writeLength (t .w)) (t .out′)
+job t = take (exportLength (t .w)) (t .out′)
 
 abbrev pub commandCount : Trip → ℕ
 commandCount t = importCounts (t .r) .commands
@@ -73,7 +74,7 @@ pub record Front {A : Type 0} (n : ℕ) (answer before after : List A) : Type 0 
 -- Neither call refuses, nor does the name's. The counts are those of the list and of its thread bytes. The buffers hold the list and its
 -- threads at their fronts, and cells behind stay. The name told of the job is the name.
 pub record Kept (t : Trip) : Type 0 where
-  pub written : writeNumber (t .w) ≡ 0
+  pub written : exportNumber (t .w) ≡ 0
   pub read : importNumber (t .r) ≡ 0
   pub command-count : commandCount t ≡ length (t .kinds)
   pub thread-byte-count : threadByteCount t ≡ length (t .threads)
@@ -116,8 +117,8 @@ module _ (t : Trip) where
   exports : exportVerdict (t .name) (t .xs) (t .ys) (t .kinds) (t .threads) (length (t .out)) ≡ Accepted
   exports = export-accepted (t .name) (t .xs) (t .ys) (t .kinds) (t .threads) (length (t .out)) (t .short) (t .accepted) (t .bytes)
 
-  is-written : t .w ≡ Written (length file)
-  unfolding writeAnswer
+  is-written : t .w ≡ Sent (length file)
+  unfolding exportAnswer
   is-written = t .exported .answered ∙ rw exports
 
   is-stored : t .out′ ≡ file ++ drop (length file) (t .out)
@@ -125,7 +126,7 @@ module _ (t : Trip) where
   is-stored = t .exported .stored ∙ rw exports
 
   pub the-job : job t ≡ file
-  unfolding writeLength
+  unfolding exportLength
   the-job = rw (is-written, is-stored) (take-append-seam file (drop (length file) (t .out)))
 
   importing : ImportedOf file (t .bx) (t .by) (t .bk) (t .bt) (t .bx′) (t .by′) (t .bk′) (t .bt′) (t .r)
@@ -157,7 +158,7 @@ module _ (t : Trip) where
   filled-by {s = s} p e n = front-of s (p ∙ rw (imports, e)) n
 
   pub kept : Kept t
-  unfolding writeNumber importNumber jobXs jobYs jobKinds verdictNumber jobNameTold labelUnder
+  unfolding exportNumber importNumber jobXs jobYs jobKinds verdictNumber jobNameTold labelUnder
   kept =
       let b = back in
       let i = importing in

@@ -33,7 +33,7 @@ use Rattle.laws.specs.Little.{length-little, from-little}
 use Rattle.laws.specs.Listing.{noCmd, length-commands}
 use Rattle.laws.specs.Places.{Small, every}
 use Rattle.laws.specs.Verdicts.{first-false, verdict-on}
-use Rattle.laws.specs.Jobs.{fields-step}
+use Rattle.laws.specs.Jobs.{fields-step, rows-long}
 use Rattle.export_job.specs.Lengths.{fields-of-commands, length-rows, job-length}
 
 -- ---- a field comes back
@@ -305,11 +305,11 @@ import-accepted job n m k l e a b c d =
 
 -- name, threads and list are the same
 pub record Same (name : List ℕ) (xs ys : List ℤ) (kinds threads name′ : List ℕ) (xs′ ys′ : List ℤ) (kinds′ threads′ : List ℕ) : Type 0 where
-  pub names : name ≡ name′
-  pub across : xs ≡ xs′
-  pub down : ys ≡ ys′
-  pub sorts : kinds ≡ kinds′
-  pub dyes : threads ≡ threads′
+  pub same-name : name ≡ name′
+  pub same-xs : xs ≡ xs′
+  pub same-ys : ys ≡ ys′
+  pub same-kinds : kinds ≡ kinds′
+  pub same-threads : threads ≡ threads′
 
 pub same-job : (name : List ℕ) (xs ys : List ℤ) (kinds threads name′ : List ℕ) (xs′ ys′ : List ℤ) (kinds′ threads′ : List ℕ)
     → length name ≤ longestName → commandVerdict xs ys kinds threads ≡ Accepted
@@ -319,13 +319,13 @@ same-job name xs ys kinds threads name′ xs′ ys′ kinds′ threads′ h e h�
     let b = imports-back name xs ys kinds threads h e in
     let b′ = imports-back name′ xs′ ys′ kinds′ threads′ h′ e′ in (
       λ p. record {
-        names = sym (b .name-is) ∙ ap jobName p ∙ b′ .name-is;
-        across = sym (b .xs-are) ∙ ap jobXs p ∙ b′ .xs-are;
-        down = sym (b .ys-are) ∙ ap jobYs p ∙ b′ .ys-are;
-        sorts = sym (b .kinds-are) ∙ ap jobKinds p ∙ b′ .kinds-are;
-        dyes = sym (b .threads-are) ∙ ap jobThreads p ∙ b′ .threads-are;
+        same-name = sym (b .name-is) ∙ ap jobName p ∙ b′ .name-is;
+        same-xs = sym (b .xs-are) ∙ ap jobXs p ∙ b′ .xs-are;
+        same-ys = sym (b .ys-are) ∙ ap jobYs p ∙ b′ .ys-are;
+        same-kinds = sym (b .kinds-are) ∙ ap jobKinds p ∙ b′ .kinds-are;
+        same-threads = sym (b .threads-are) ∙ ap jobThreads p ∙ b′ .threads-are;
       },
-      λ s. rw (s .names, s .across, s .down, s .sorts, s .dyes),
+      λ s. rw (s .same-name, s .same-xs, s .same-ys, s .same-kinds, s .same-threads),
     )
 
 -- ---- buffers that hold any job
@@ -350,22 +350,13 @@ size-field : (tag : ℕ) (s : List ℕ) (fs : Fields)
 unfolding size commandsIn threadsIn
 size-field tag s fs = simp length-append (omega arith)
 
-rows-size : (s : List ℕ) → 5 * length (rowsOf s) ≤ length s
-unfolding rowsOf
-rows-size [] = omega arith
-rows-size (k ∷ []) = omega arith
-rows-size (k ∷ a ∷ []) = omega arith
-rows-size (k ∷ a ∷ b ∷ []) = omega arith
-rows-size (k ∷ a ∷ b ∷ c ∷ []) = omega arith
-rows-size (k ∷ a ∷ b ∷ c ∷ d ∷ s) = omega (arith, rows-size s)
-
 -- tag and length take three bytes, and three bytes of a thread count as six
 content-size : (tag : ℕ) (s : List ℕ) → lengthAllowed tag (length s) ≡ true
     → 5 * length (rowsIn tag s) + 2 * length (pick (eqb tag 2) s []) ≤ 3 + length s
 unfolding lengthAllowed rowsIn
 content-size tag s e = by-test (eqb tag 2)
     (λ t. let two = eqb-true tag 2 t in let three : length s ≡ 3 = eqb-true _ _ (rw two at e) in rw two (omega arith))
-    (λ t. rw t (by-test (eqb tag 3) (λ u. rw u (omega (arith, rows-size s))) (λ u. rw u (omega arith))))
+    (λ t. rw t (by-test (eqb tag 3) (λ u. rw u (omega (arith, rows-long s))) (λ u. rw u (omega arith))))
 
 pick-by : {A : Type 0} (P : A → Type 0) (b : Bool) {x y : A} → P x → (b ≡ false → P y) → P (pick b x y)
 pick-by P true h f = h

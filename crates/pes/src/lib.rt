@@ -22,6 +22,7 @@ ghost use mathlib.Core.Path.{_≡_};
 ghost use mathlib.Core.Bool.{false};
 ghost use Prim.Native.Nat.{_+_, _≤_};
 ghost use lib.ListN.{length};
+ghost use Rattle.rules.specs.Files.{writeAnswer};
 ghost use Rattle.rules.specs.Lists.{commands, threadsOf};
 ghost use Rattle.rules.specs.Pec.{pecFile};
 ghost use Rattle.rules.specs.Pes.{pesFile};
@@ -66,7 +67,7 @@ fn pec_accepted(
     out: &mut [u8],
 ) -> WriteAnswer
     requires { ⌜ (length (now kinds) ≤ 65535) × ((length (now threads) ≤ 765) × (stepTooLong Pec (commands (now xs) (now ys) (now kinds)) ≡ false)) ⌝ }
-    ensures { λ r. ⌜ Answered (pecFile (was name) (commands (was xs) (was ys) (was kinds)) (threadsOf (was threads))) (was out) (left out) r ⌝ }
+    ensures { λ r. ⌜ Answered writeAnswer (pecFile (was name) (commands (was xs) (was ys) (was kinds)) (threadsOf (was threads))) (was out) (left out) r ⌝ }
 {
     let n = pec_len(xs, ys, kinds);
     let long = 8 + part_len(xs, ys, kinds, threads, n);
@@ -148,7 +149,7 @@ fn pes_accepted(
 ) -> WriteAnswer
     requires { ⌜ (length (now kinds) ≤ 65535) × ((length (now threads) ≤ 765) × (stepTooLong Pes (commands (now xs) (now ys) (now kinds)) ≡ false)) ⌝ }
     requires { ⌜ placeOutside (commands (now xs) (now ys) (now kinds)) ≡ false ⌝ }
-    ensures { λ r. ⌜ Answered (pesFile (was name) (commands (was xs) (was ys) (was kinds)) (threadsOf (was threads))) (was out) (left out) r ⌝ }
+    ensures { λ r. ⌜ Answered writeAnswer (pesFile (was name) (commands (was xs) (was ys) (was kinds)) (threadsOf (was threads))) (was out) (left out) r ⌝ }
 {
     let codes = thread_codes(threads);
     let z = measured(&codes, threads, xs, ys, kinds);

@@ -12,6 +12,8 @@ use Rattle.rules.specs.Vp3.{rowOf}
 use Rattle.rules.specs.Refusals.{numberOf, verdict, commandRefusals}
 use Rattle.rules.specs.Files.{labelUnder}
 use Rattle.rules.specs.declared.Cmd.{Cmd}
+use Rattle.rules.specs.declared.ExportAnswer.{ExportAnswer}
+use Rattle.rules.specs.declared.ExportAnswer.the-variants.{Exported, NotExported}
 use Rattle.rules.specs.declared.ImportAnswer.{ImportAnswer}
 use Rattle.rules.specs.declared.ImportAnswer.the-variants.{Imported, NotImported}
 use Rattle.rules.specs.declared.JobCounts.{JobCounts}
@@ -209,3 +211,17 @@ exportVerdict name xs ys kinds threads n = verdict
     (exportRefusals name xs ys kinds threads
     ++ (BufferTooShort, ltb n (length (jobOf name (commands xs ys kinds) threads)))
     ∷ [])
+
+-- what an export answers under a verdict: the length of the job
+unfoldable pub exportAnswer : Verdict → ℕ → ExportAnswer
+exportAnswer Accepted len = Exported len
+exportAnswer (Refused r) len = NotExported r
+
+-- the number, 0 without a refusal, and the length, 0 with one
+unfoldable pub exportNumber : ExportAnswer → ℕ
+exportNumber (Exported len) = 0
+exportNumber (NotExported r) = numberOf r
+
+unfoldable pub exportLength : ExportAnswer → ℕ
+exportLength (Exported len) = len
+exportLength (NotExported r) = 0

@@ -16,10 +16,11 @@ use Rattle.rules.specs.Files.{fileOf, fileTold, writeVerdict, writeAnswe
 use Rattle.rules.specs.Files.{placesOf, runsOf, blocksOf, placesTold, runsTold, blocksTold, cutsTold, countsOf}
 use Rattle.rules.specs.Files.{fileVerdict, readVerdict, readAnswer, readNumber, readCounts, labelTold}
 use Rattle.rules.specs.Jobs.{jobXs, jobYs, jobKinds, jobThreads, jobVerdict, jobCounts, importVerdict, importAnswer, importNumber, importCounts}
-use Rattle.rules.specs.Jobs.{jobNameTold, jobNameStart, jobOf, exportVerdict}
+use Rattle.rules.specs.Jobs.{jobNameTold, jobNameStart, jobOf, exportVerdict, exportAnswer, exportNumber, exportLength}
 use Rattle.rules.specs.Sewing.{listSewing, toldSewing, listNeedles, toldNeedles}
 use Rattle.rules.specs.declared.Cmd.{Cmd}
 use Rattle.rules.specs.declared.Counts.{Counts}
+use Rattle.rules.specs.declared.ExportAnswer.{ExportAnswer}
 use Rattle.rules.specs.declared.Extension.{Extension}
 use Rattle.rules.specs.declared.Extension.the-variants.{Of, Unknown}
 use Rattle.rules.specs.declared.Format.{Format}
@@ -149,8 +150,8 @@ pub record JobNameNumbers (job : List ℕ) (n start len : ℕ) : Type 0 where
 
 module _ (name : List ℕ) (xs ys : List ℤ) (kinds threads out : List ℕ) where
   -- `export_job`, where the buffer is `out` at entry and `out′` at exit
-  pub record Exported (out′ : List ℕ) (w : WriteAnswer) : Type 0 where
-    pub answered : w ≡ writeAnswer
+  pub record Exported (out′ : List ℕ) (w : ExportAnswer) : Type 0 where
+    pub answered : w ≡ exportAnswer
         (exportVerdict name xs ys kinds threads (length out))
         (length (jobOf name (commands xs ys kinds) threads))
     pub stored : out′ ≡ filled
@@ -160,10 +161,10 @@ module _ (name : List ℕ) (xs ys : List ℤ) (kinds threads out : List ℕ) whe
 
   -- `stitch_box_export_job`: the answer's number, 0 without a refusal, and the length of the job, 0 with one
   pub record ExportedNumbers (out′ : List ℕ) (n len : ℕ) : Type 0 where
-    pub answer : WriteAnswer
+    pub answer : ExportAnswer
     pub exported : Exported out′ answer
-    pub number : n ≡ writeNumber answer
-    pub size : len ≡ writeLength answer
+    pub number : n ≡ exportNumber answer
+    pub size : len ≡ exportLength answer
 
 -- ---- writing and reading back
 

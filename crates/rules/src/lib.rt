@@ -117,6 +117,12 @@ pub enum ImportAnswer {
     NotImported(Refusal),
 }
 
+// What the export of a job answers: its length.
+pub enum ExportAnswer {
+    Exported(usize),
+    NotExported(Refusal),
+}
+
 // What the first record of a list of bytes does, by how far it moves, and the bytes it takes.
 pub enum Record {
     StitchBy { dx: i32, dy: i32, len: usize },

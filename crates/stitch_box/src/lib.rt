@@ -6,6 +6,7 @@ use jef::write_jef;
 use pes::pes_from_stream;
 use pes::write_pec_file;
 use rules::DST_HEADER;
+use rules::ExportAnswer;
 use rules::Extension;
 use rules::Format;
 use rules::ImportAnswer;
@@ -201,7 +202,7 @@ pub fn export_job(
     kinds: &[u8],
     threads: &[u8],
     out: &mut [u8],
-) -> WriteAnswer
+) -> ExportAnswer
     ensures { λ w. ⌜ Exported (was name) (was xs) (was ys) (was kinds) (was threads) (was out) (left out) w ⌝ }
 {
     export_job::export_job(name, xs, ys, kinds, threads, out)

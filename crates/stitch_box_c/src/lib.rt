@@ -2,6 +2,7 @@
 use read_refusals::LabelAnswer;
 use rules::Cmd;
 use rules::Counts;
+use rules::ExportAnswer;
 use rules::ImportAnswer;
 use rules::JobCounts;
 use rules::ReadAnswer;
@@ -9,7 +10,7 @@ use rules::WriteAnswer;
 use write_refusals::number;
 ghost use mathlib.Core.Path.{_≡_};
 ghost use Rattle.rules.specs.Files.{readNumber, readCounts, writeNumber, writeLength};
-ghost use Rattle.rules.specs.Jobs.{importNumber, importCounts};
+ghost use Rattle.rules.specs.Jobs.{importNumber, importCounts, exportNumber, exportLength};
 ghost use Rattle.rules.specs.Promises.{was, left, WroteNumbers, boundTold, LabelNumbers, JobNameNumbers, ExportedNumbers};
 ghost use Rattle.rules.specs.Refusals.{extensionOf};
 ghost use Rattle.stitch_box_c.specs.Exports.{labelNumber, labelStart, labelLength, ReadsNumbers, WroteCmdsNumbers, ImportsNumbers};
@@ -205,6 +206,22 @@ pub extern "C" fn stitch_box_job_name(job: &[u8], start: &mut u64, length: &mut 
     put_label(answer, start, length)
 }
 
+// The number of an export, its length being put: 0 and the length, or the refusal's number and 0.
+fn put_exported(answer: ExportAnswer, size: &mut u64) -> u32
+    ensures { λ r. ⌜ (r ≡ exportNumber answer) × (left size ≡ exportLength answer) ⌝ }
+{
+    match answer {
+        ExportAnswer::Exported(n) => {
+            *size = n as u64;
+            0
+        }
+        ExportAnswer::NotExported(why) => {
+            *size = 0;
+            number(why)
+        }
+    }
+}
+
 // `export_job`; the length of the job becomes 0 under a refusal.
 #[no_mangle]
 pub extern "C" fn stitch_box_export_job(
@@ -219,5 +236,5 @@ pub extern "C" fn stitch_box_export_job(
     ensures { λ r. ⌜ ExportedNumbers (was name) (was xs) (was ys) (was kinds) (was threads) (was out) (left out) r (left length) ⌝ }
 {
     let answer = stitch_box::export_job(name, xs, ys, kinds, threads, out);
-    put_length(answer, length)
+    put_exported(answer, length)
 }

@@ -23,6 +23,7 @@ ghost use mathlib.Core.List.{[]};
 ghost use Prim.Native.Nat.{_≤_, _<_};
 ghost use lib.IntN.{_+ℤ_};
 ghost use lib.ListN.{length};
+ghost use Rattle.rules.specs.Files.{writeAnswer};
 ghost use Rattle.rules.specs.Lists.{commands, threadsOf};
 ghost use Rattle.rules.specs.Vp3.{vp3File};
 ghost use Rattle.rules.specs.Promises.{was, left, Wrote};
@@ -64,7 +65,7 @@ fn write_accepted(
     out: &mut [u8],
 ) -> WriteAnswer
     requires { ⌜ Known (now xs) (now ys) (now kinds) × (1 ≤ length (now kinds)) ⌝ }
-    ensures { λ r. ⌜ Answered (vp3File (commands (was xs) (was ys) (was kinds)) (threadsOf (was threads))) (was out) (left out) r ⌝ }
+    ensures { λ r. ⌜ Answered writeAnswer (vp3File (commands (was xs) (was ys) (was kinds)) (threadsOf (was threads))) (was out) (left out) r ⌝ }
 {
     let mut ends = [0usize; 256];
     let mut lens = [0usize; 256];

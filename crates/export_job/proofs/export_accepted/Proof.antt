@@ -8,8 +8,8 @@ use Rattle.rules.specs.Lists.{commands}
 use Rattle.rules.specs.Jobs.{jobOf}
 use Rattle.laws.specs.Buffers.{put-put}
 use Rattle.laws.specs.Listing.{length-commands}
-use Rattle.emit.proofs.Writes.{written, unwritten}
 use Rattle.export_job.specs.Lengths.{length-field, length-threadFields, length-commandFields, job-length}
+use Rattle.export_job.proofs.Exports.{sent, not-sent}
 use Rattle.export_job.proofs.export_accepted.Statement.{statement}
 use Rattle.export_job.proofs.export_accepted.Tie as tie
 
@@ -52,12 +52,12 @@ returns-2 c =
     let threads = c .before .before .before .before .before .before in
     let name = threads .before .before .before .before in
     let room = name .before .before in
-    written (room .if1 .left) (long (room .before))
+    sent (room .if1 .left) (long (room .before))
     (put-put (put-put (name .put-field .ensures) (threads .put-threads .ensures)) (c .before .before .put-list .ensures))
 
 pub export-accepted-spec : {M : Type 1} → statement M
 export-accepted-spec =
     tie.close
     (tie.spec
-    (λ c κs. search needs) job-len-requires (λ c. unwritten (c .if1 .taken) (long (c .before))) (λ c κs. search needs)
+    (λ c κs. search needs) job-len-requires (λ c. not-sent (c .if1 .taken) (long (c .before))) (λ c κs. search needs)
     put-threads-requires put-list-requires (λ c. search needs) returns-2)
