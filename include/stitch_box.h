@@ -21,13 +21,13 @@ extern "C" {
 #endif
 
 /* Raised with each change of the interface or of what the functions answer; CHANGELOG.md has what changed. */
-#define STITCH_BOX_VERSION "0.5.0"
+#define STITCH_BOX_VERSION "0.6.0"
 
 /* What a function answers: 0, or the number of a refusal. A number comes if its condition holds and that of none before it in the order of
  * checking. Reading checks 1, 2, 3, 4, 5, 11, the count byte (4) after 5; in a VP3 4 and 12 come after 3, in order of place in the file.
  * Writing checks 1, 6, 7, 8, 9, 10, 11, each over the whole list. Importing a job checks 2, then 13 and 14 in order of place in the job,
- * then 6, 7, 8, 9, 11; exporting one checks 14 (the name), 6, 7, 8, 9, 11. A refused call changes no element of any slice; the counts and
- * lengths that it is given references to become 0. */
+ * then 6, 7, 8, 9, 11; exporting one checks 14 (the name), 6, 7, 8, 9, 11. A refused call changes no element of any slice; the counts,
+ * lengths and distance that it is given references to become 0. */
 enum {
     STITCH_BOX_DONE = 0,
     STITCH_BOX_UNKNOWN_EXTENSION = 1, /* The extension is none of the six. */
@@ -67,13 +67,20 @@ struct stitch_box_cmd {
     uint8_t kind;
 };
 
-/* Writes a list to the front of out and the file's length to *length; the bytes behind it stay.
+/* Writes a list to the front of out, the file's length to *length and how far off its threads are to *distance; the bytes behind the file
+ * stay.
  *
  * xs, ys and kinds have one element a command. Threads are three bytes each (red, green, blue), one for each colour block in order. What
  * is stored of a colour is the entry of a chart: in PES and PEC the nearest of 64 that no other thread has yet, in JEF the nearest of 78,
  * but not that of a different thread just before. VP3 stores the colours as they are, black for a block without a thread. DST and EXP
  * store no colours. Of the name PES and PEC keep 8 bytes and DST 16, after bytes from 128 up (in DST also control characters) are dropped;
- * EXP, JEF and VP3 store none. */
+ * EXP, JEF and VP3 store none.
+ *
+ * *distance is the largest distance between a thread and the chart's own colour of the entry stored for it: in PES and PEC the entry in the
+ * PEC part (the codes of PES sections do not count), in JEF that in the thread table. It is 0 where each thread is its entry's colour or
+ * there are no threads, in DST, EXP and VP3, and under a refusal; else it is greater, at most 584,970, the distance of black and white.
+ * With the differences r, g and b of two colours and the mean m of their reds (a half goes to the even number) the distance is
+ * (512 + m) r r / 256 + 4 g g + (767 - m) b b / 256, each quotient rounded down. */
 uint32_t stitch_box_write(
     const uint8_t *ext, size_t ext_length,
     const uint8_t *name, size_t name_length,
@@ -82,7 +89,7 @@ uint32_t stitch_box_write(
     const uint8_t *kinds, size_t kinds_length,
     const uint8_t *threads, size_t threads_length,
     uint8_t *out, size_t out_length,
-    uint64_t *length);
+    uint64_t *length, uint32_t *distance);
 
 /* stitch_box_write of a list of records. */
 uint32_t stitch_box_write_cmds(
@@ -91,7 +98,7 @@ uint32_t stitch_box_write_cmds(
     const struct stitch_box_cmd *cmds, size_t cmds_length,
     const uint8_t *threads, size_t threads_length,
     uint8_t *out, size_t out_length,
-    uint64_t *length);
+    uint64_t *length, uint32_t *distance);
 
 /* A length of out that always suffices: no list of so many commands and threads that is accepted has a longer file. With an unknown
  * extension the answer is 0. Commands past 65,535 and threads past 255, which are refused, do not raise it. For n commands and t threads:

@@ -1,6 +1,6 @@
 /* Writes a square in each format by both writes, reads it back, asks for its label and prints what came back; then sees to it that refused
- * calls answer their number and change no buffer, and that the cuts of a DST are counted by rows of jumps. Exports the square as a job and
- * imports it. Valid C99 and C++. The status is 1 if anything is wrong. */
+ * calls answer their number and change no buffer, that writes tell how far off threads are, and that the cuts of a DST are counted by rows
+ * of jumps. Exports the square as a job and imports it. Valid C99 and C++. The status is 1 if anything is wrong. */
 #include "../../include/stitch_box.h"
 #include <stdio.h>
 #include <string.h>
@@ -32,10 +32,23 @@ static const struct stitch_box_cmd square[COMMANDS] = {
     {10, 60, STITCH_BOX_STITCH}, {10, 10, STITCH_BOX_STITCH}, {10, 10, STITCH_BOX_END},
 };
 
+/* Threads, and how far off they are in PES and PEC and in JEF. Black is in both charts; of two threads the second goes without it. */
+static const struct {
+    uint8_t bytes[6];
+    size_t length;
+    uint32_t pec, jef;
+} shades[] = {
+    {{0}, 0, 0, 0},                      /* none */
+    {{0, 0, 0}, 3, 0, 0},                /* black */
+    {{200, 40, 40}, 3, 5232, 2565},      /* the square's: (237, 23, 31) and (227, 49, 31) */
+    {{0, 0, 0, 1, 1, 1}, 6, 4802, 9331}, /* black and then (42, 19, 1), in JEF (51, 32, 10) */
+};
+
 /* Stitches on the spot and an end: one more than may be. */
 static struct stitch_box_cmd many[TOO_MANY];
 
 static uint8_t file[ROOM], out[ROOM];
+static uint32_t distance;
 static int32_t places[ROOM];
 static uint32_t runs[ROOM], blocks[ROOM];
 static uint32_t point_count, run_count, block_count, cut_count;
@@ -78,24 +91,38 @@ static size_t bound(const char *ext)
 static uint32_t write_slices(const char *ext, size_t room, uint64_t *length)
 {
     memset(out, MARK, sizeof out);
-    *length = 7;
+    *length = distance = 7;
     return stitch_box_write(bytes(ext), strlen(ext), bytes(name), strlen(name), xs, COMMANDS, ys, COMMANDS, kinds, COMMANDS,
-                            threads, sizeof threads, out, room, length);
+                            threads, sizeof threads, out, room, length, &distance);
 }
 
 /* Writes so many records, to so many bytes. */
 static uint32_t write_records(const char *ext, const struct stitch_box_cmd *cmds, size_t count, size_t room, uint64_t *length)
 {
     memset(out, MARK, sizeof out);
-    *length = 7;
+    *length = distance = 7;
     return stitch_box_write_cmds(bytes(ext), strlen(ext), bytes(name), strlen(name), cmds, count, threads, sizeof threads,
-                                 out, room, length);
+                                 out, room, length, &distance);
 }
 
-/* Whether a write answers this number, changes nothing and tells a length of 0. */
-static int refused(uint32_t number, uint32_t wanted, const uint64_t *length)
+/* Whether a write or an export answers this number, changes nothing and tells a length of 0. */
+static int unchanged(uint32_t number, uint32_t wanted, const uint64_t *length)
 {
     return number == wanted && *length == 0 && marked(out, 0, sizeof out);
+}
+
+/* The same of a write, which tells a distance of 0 too. */
+static int refused(uint32_t number, uint32_t wanted, const uint64_t *length)
+{
+    return unchanged(number, wanted, length) && distance == 0;
+}
+
+/* What a write under this extension should tell of shades. */
+static uint32_t far_off(const char *ext, size_t at)
+{
+    if (strcmp(ext, "jef") == 0)
+        return shades[at].jef;
+    return strcmp(ext, "pes") == 0 || strcmp(ext, "pec") == 0 ? shades[at].pec : 0;
 }
 
 /* Reads the front of the file; so many elements of places, and enough of runs and blocks. */
@@ -114,6 +141,22 @@ static int nothing_read(void)
 {
     return marked(places, 0, sizeof places) && marked(runs, 0, sizeof runs) && marked(blocks, 0, sizeof blocks) &&
            point_count == 0 && run_count == 0 && block_count == 0 && cut_count == 0;
+}
+
+/* Writes the square in each of the shades by both writes. */
+static void see_distances(const char *ext)
+{
+    for (size_t at = 0; at < sizeof shades / sizeof *shades; at++) {
+        uint64_t length = 7;
+        uint32_t by_slices = 7, by_records = 7;
+        see(stitch_box_write(bytes(ext), strlen(ext), bytes(name), strlen(name), xs, COMMANDS, ys, COMMANDS, kinds, COMMANDS,
+                             shades[at].bytes, shades[at].length, out, ROOM, &length, &by_slices) == STITCH_BOX_DONE,
+            ext, "the write of a shade");
+        see(stitch_box_write_cmds(bytes(ext), strlen(ext), bytes(name), strlen(name), square, COMMANDS, shades[at].bytes,
+                                  shades[at].length, out, ROOM, &length, &by_records) == STITCH_BOX_DONE,
+            ext, "the write of a shade by records");
+        see(by_slices == far_off(ext, at) && by_records == far_off(ext, at), ext, "the distance of a shade");
+    }
 }
 
 /* Writes the square by both writes and keeps its file; the file's length, or 0 if something is wrong. */
@@ -158,9 +201,10 @@ static void label_square(const char *ext, size_t length)
     if (!see(label_length == strlen(label) && start <= length && label_length <= length - start, ext, "the label's place"))
         return;
     see(memcmp(file + start, label, strlen(label)) == 0, ext, "the label's bytes");
-    printf("%s: %lu bytes of at most %lu; %lu points, %lu run, %lu block, %lu cuts; label [%.*s]\n", ext, (unsigned long)length,
-           (unsigned long)bound(ext), (unsigned long)point_count, (unsigned long)run_count, (unsigned long)block_count,
-           (unsigned long)cut_count, (int)label_length, (const char *)file + start);
+    printf("%s: %lu bytes of at most %lu, distance %lu; %lu points, %lu run, %lu block, %lu cuts; label [%.*s]\n", ext,
+           (unsigned long)length, (unsigned long)bound(ext), (unsigned long)distance, (unsigned long)point_count,
+           (unsigned long)run_count, (unsigned long)block_count, (unsigned long)cut_count, (int)label_length,
+           (const char *)file + start);
 }
 
 /* A byte or an element too few; records of which there are too many, and one fewer, for which the buffer is too short. */
@@ -243,7 +287,7 @@ static void export_job(void)
     see(length == JOB_BYTES && length <= STITCH_BOX_JOB_BOUND, "job", "the length");
     see(marked(out, JOB_BYTES, sizeof out), "job", "bytes behind the job");
     memcpy(file, out, sizeof file);
-    see(refused(export_square(name, strlen(name), JOB_BYTES - 1, &length), STITCH_BOX_BUFFER_TOO_SHORT, &length), "job",
+    see(unchanged(export_square(name, strlen(name), JOB_BYTES - 1, &length), STITCH_BOX_BUFFER_TOO_SHORT, &length), "job",
         "a byte too few");
 }
 
@@ -275,7 +319,7 @@ static void refuse_job(void)
     uint64_t length;
     memset(long_name, 'n', sizeof long_name);
     see(job_refused(JOB_BYTES - 1, STITCH_BOX_BAD_LENGTH), "job", "a field that passes the end");
-    see(refused(export_square(long_name, 65, ROOM, &length), STITCH_BOX_BAD_LENGTH, &length), "job", "a name of 65 bytes");
+    see(unchanged(export_square(long_name, 65, ROOM, &length), STITCH_BOX_BAD_LENGTH, &length), "job", "a name of 65 bytes");
     see(export_square(long_name, 64, ROOM, &length) == STITCH_BOX_DONE && length == JOB_BYTES + 58, "job", "a name of 64 bytes");
     file[0] = 9;
     see(job_refused(JOB_BYTES, STITCH_BOX_BAD_TAG), "job", "an unknown tag");
@@ -292,6 +336,7 @@ int main(void)
         read_square(exts[f], length);
         label_square(exts[f], length);
         refuse(exts[f], length);
+        see_distances(exts[f]);
     }
     see(stitch_box_write_bound(bytes("pes"), 3, SIZE_MAX, SIZE_MAX) == STITCH_BOX_WRITE_BOUND, "pes", "the greatest bound");
     refuse_extension("txt");

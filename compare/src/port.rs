@@ -53,6 +53,7 @@ mod archive {
             out: *mut u8,
             out_length: usize,
             length: *mut u64,
+            distance: *mut u32,
         ) -> u32;
 
         pub fn stitch_box_write_cmds(
@@ -67,6 +68,7 @@ mod archive {
             out: *mut u8,
             out_length: usize,
             length: *mut u64,
+            distance: *mut u32,
         ) -> u32;
 
         pub fn stitch_box_write_bound(
@@ -168,9 +170,16 @@ impl Lists {
     }
 }
 
-/// Writes a list: 0 or the number of the refusal.
+/// Writes a list: 0 or the number of the refusal. It tells the length of the file and how far off
+/// the threads are.
 #[cfg(stitch_box)]
-pub fn write(ext: &[u8], list: &Lists, out: &mut [u8], length: &mut u64) -> u32 {
+pub fn write(
+    ext: &[u8],
+    list: &Lists,
+    out: &mut [u8],
+    length: &mut u64,
+    distance: &mut u32,
+) -> u32 {
     // SAFETY: each pointer comes with the length of its slice.
     unsafe {
         archive::stitch_box_write(
@@ -189,12 +198,13 @@ pub fn write(ext: &[u8], list: &Lists, out: &mut [u8], length: &mut u64) -> u32 
             out.as_mut_ptr(),
             out.len(),
             length,
+            distance,
         )
     }
 }
 
 #[cfg(not(stitch_box))]
-pub fn write(_: &[u8], _: &Lists, _: &mut [u8], _: &mut u64) -> u32 {
+pub fn write(_: &[u8], _: &Lists, _: &mut [u8], _: &mut u64, _: &mut u32) -> u32 {
     panic!("{MISSING}")
 }
 
@@ -207,6 +217,7 @@ pub fn write_cmds(
     threads: &[u8],
     out: &mut [u8],
     length: &mut u64,
+    distance: &mut u32,
 ) -> u32 {
     // SAFETY: each pointer comes with the length of its slice.
     unsafe {
@@ -222,12 +233,21 @@ pub fn write_cmds(
             out.as_mut_ptr(),
             out.len(),
             length,
+            distance,
         )
     }
 }
 
 #[cfg(not(stitch_box))]
-pub fn write_cmds(_: &[u8], _: &[u8], _: &[Cmd], _: &[u8], _: &mut [u8], _: &mut u64) -> u32 {
+pub fn write_cmds(
+    _: &[u8],
+    _: &[u8],
+    _: &[Cmd],
+    _: &[u8],
+    _: &mut [u8],
+    _: &mut u64,
+    _: &mut u32,
+) -> u32 {
     panic!("{MISSING}")
 }
 

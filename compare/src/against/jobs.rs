@@ -99,6 +99,7 @@ impl JobCells {
             number: number(&answer),
             length: job.len(),
             sizes: [answer.map_or(0, |list| list.kinds.len()), 0, 0],
+            ..Told::default()
         };
         (told, calls)
     }
@@ -125,6 +126,7 @@ impl JobCells {
             number: number(&answer),
             length: answer.map_or(0, |job| job.len()),
             sizes: [list.kinds.len(), 0, 0],
+            ..Told::default()
         };
         (told, calls)
     }

@@ -86,6 +86,8 @@ pub struct Told {
     pub length: usize,
     /// Points, runs and blocks read, or commands.
     pub sizes: [usize; 3],
+    /// How far off the threads written are.
+    pub distance: u32,
 }
 
 #[derive(Default)]
@@ -112,6 +114,9 @@ struct Side {
     numbers: [u64; NUMBERS],
     longest: usize,
     sizes: [u64; 3],
+    /// Cases with a distance over 0, and the largest.
+    distances: u64,
+    furthest: u32,
 }
 
 impl Calls {
@@ -265,18 +270,18 @@ impl Tally {
     }
 
     fn print_sizes(&self) {
-        println!(
-            "\n| format | longest read | points | runs | blocks | commands | longest written |"
-        );
-        println!("|---|---|---|---|---|---|---|");
+        print!("\n| format | longest read | points | runs | blocks | commands | longest written ");
+        println!("| distances over 0 | largest |\n|---|---|---|---|---|---|---|---|---|");
         for (name, shown) in &ROWS[..Format::ALL.len()] {
             let row = self.rows.get(name).cloned().unwrap_or_default();
             let [points, runs, blocks] = row.reads.sizes.map(digits);
             println!(
-                "| {shown} | {} | {points} | {runs} | {blocks} | {} | {} |",
+                "| {shown} | {} | {points} | {runs} | {blocks} | {} | {} | {} | {} |",
                 digits(row.reads.longest as u64),
                 digits(row.writes.sizes[0]),
-                digits(row.writes.longest as u64)
+                digits(row.writes.longest as u64),
+                digits(row.writes.distances),
+                digits(row.writes.furthest.into())
             );
         }
     }
@@ -306,6 +311,8 @@ impl Side {
         self.numbers[usize::from(told.number)] += 1;
         self.longest = self.longest.max(told.length);
         add(&mut self.sizes, &told.sizes.map(|size| size as u64));
+        self.distances += u64::from(told.distance > 0);
+        self.furthest = self.furthest.max(told.distance);
     }
 
     fn add(&mut self, other: &Side) {
@@ -313,6 +320,8 @@ impl Side {
         add(&mut self.numbers, &other.numbers);
         self.longest = self.longest.max(other.longest);
         add(&mut self.sizes, &other.sizes);
+        self.distances += other.distances;
+        self.furthest = self.furthest.max(other.furthest);
     }
 }
 

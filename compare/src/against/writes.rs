@@ -1,12 +1,12 @@
 //! The port's two writes against the published Rust, and their refusals against
-//! document 01's table: number, length and every byte of the buffer, those past the
-//! file too.
+//! document 01's table: number, length, how far off the threads are, and every byte of
+//! the buffer, those past the file too.
 
 use crate::against::lent_cells::Lent;
 use crate::against::tally::{Calls, Function, Told};
 use crate::against::write_bound;
 use crate::inputs::faulty_lists::Asked;
-use crate::oracle::{self, Command, refusals};
+use crate::oracle::{self, Command, distance, refusals};
 use crate::port::{self, Cmd, Lists};
 
 /// Bytes are set to one of these before a call; the calls for one list take
@@ -21,14 +21,22 @@ const JUNK: [u8; 2] = [0x00, 0xA5];
 pub struct Writings {
     out: Lent<u8>,
     length: Lent<u64>,
+    distance: Lent<u32>,
 }
 
 /// One call: what it should answer, and the buffer lent.
 struct Trial<'a> {
     number: u8,
-    file: &'a [u8],
+    written: &'a Written,
     length: usize,
     mark: u8,
+}
+
+/// The file and how far off its threads are; nothing and 0 under a refusal.
+#[derive(Default)]
+struct Written {
+    file: Vec<u8>,
+    distance: u32,
 }
 
 impl Writings {
@@ -36,17 +44,18 @@ impl Writings {
     /// of one length, by its records; and asks for the bound of its file.
     pub fn compare(&mut self, asked: &Asked) -> (Told, Calls) {
         let answer = answer(asked);
+        let nothing = Written::default();
         let mut calls = Calls::default();
         for (at, length) in lengths(&answer, &asked.list).into_iter().enumerate() {
-            let (number, file) = match &answer {
-                Err(number) => (*number, &[][..]),
-                Ok(file) if file.len() > length => (11, &[][..]),
-                Ok(file) => (0, &file[..]),
+            let (number, written) = match &answer {
+                Err(number) => (*number, &nothing),
+                Ok(written) if written.file.len() > length => (11, &nothing),
+                Ok(written) => (0, written),
             };
             let mark = MARKS[at % 2];
             let trial = Trial {
                 number,
-                file,
+                written,
                 length,
                 mark,
             };
@@ -58,63 +67,66 @@ impl Writings {
                 calls.take(Function::WriteCmds, Some(number), found);
             }
         }
-        let file = answer.as_deref().unwrap_or_default();
-        write_bound::compare(asked, file, &mut calls);
+        let written = answer.as_ref().unwrap_or(&nothing);
+        write_bound::compare(asked, &written.file, &mut calls);
         let told = Told {
             number: answer.as_ref().err().copied().unwrap_or(0),
-            length: file.len(),
+            length: written.file.len(),
             sizes: [asked.list.kinds.len(), 0, 0],
+            distance: written.distance,
         };
         (told, calls)
     }
 
     /// What differs in one write of slices.
     fn write(&mut self, asked: &Asked, trial: &Trial) -> Option<String> {
-        let (out, length) = self.lend(trial);
-        let number = port::write(&asked.ext, &asked.list, out, length);
+        let (out, length, distance) = self.lend(trial);
+        let number = port::write(&asked.ext, &asked.list, out, length, distance);
         self.difference(number, trial)
     }
 
     /// What differs in one write of records.
     fn write_cmds(&mut self, asked: &Asked, cmds: &[Cmd], trial: &Trial) -> Option<String> {
         let (name, threads) = (&asked.list.name, &asked.list.threads);
-        let (out, length) = self.lend(trial);
-        let number = port::write_cmds(&asked.ext, name, cmds, threads, out, length);
+        let (out, length, distance) = self.lend(trial);
+        let number = port::write_cmds(&asked.ext, name, cmds, threads, out, length, distance);
         self.difference(number, trial)
     }
 
-    fn lend(&mut self, trial: &Trial) -> (&mut [u8], &mut u64) {
+    fn lend(&mut self, trial: &Trial) -> (&mut [u8], &mut u64, &mut u32) {
         let out = self.out.lend(trial.length, trial.mark);
         let length = self.length.lend_one(u64::from_ne_bytes([trial.mark; 8]));
-        (out, length)
+        let distance = self.distance.lend_one(u32::from_ne_bytes([trial.mark; 4]));
+        (out, length, distance)
     }
 
     fn difference(&self, number: u32, trial: &Trial) -> Option<String> {
         if number != u32::from(trial.number) {
             return Some(format!("number {number}, wanted {}", trial.number));
         }
-        let length = trial.file.len() as u64;
+        let Written { file, distance } = trial.written;
         self.length
-            .difference("length", &[length])
-            .or_else(|| self.out.difference("file", trial.file))
+            .difference("length", &[file.len() as u64])
+            .or_else(|| self.distance.difference("distance", &[*distance]))
+            .or_else(|| self.out.difference("file", file))
     }
 }
 
 /// The lengths of buffers that a list is written to: as long as the file, one
 /// longer, one shorter, and none; for a refused list an ample one and none.
-fn lengths(answer: &Result<Vec<u8>, u8>, list: &Lists) -> Vec<usize> {
-    let Ok(file) = answer else {
+fn lengths(answer: &Result<Written, u8>, list: &Lists) -> Vec<usize> {
+    let Ok(written) = answer else {
         return vec![ample(list), 0];
     };
-    let n = file.len();
+    let n = written.file.len();
     let mut lengths = vec![n, n + 1];
     lengths.extend(n.checked_sub(1));
     lengths.extend((n > 1).then_some(0));
     lengths
 }
 
-/// The published Rust's file, or the number of the refusal.
-fn answer(asked: &Asked) -> Result<Vec<u8>, u8> {
+/// The published Rust's file and how far off the threads are in it, or the number of the refusal.
+fn answer(asked: &Asked) -> Result<Written, u8> {
     let list = &asked.list;
     let (0, Some(format)) = (refusals::of(asked), refusals::format(&asked.ext)) else {
         return Err(refusals::of(asked));
@@ -125,7 +137,9 @@ fn answer(asked: &Asked) -> Result<Vec<u8>, u8> {
         .map(|((&x, &y), &kind)| (x, y, kind))
         .collect();
     let (threads, _) = list.threads.as_chunks();
-    Ok(oracle::write(format, &name(list), &cmds, threads))
+    let file = oracle::write(format, &name(list), &cmds, threads);
+    let distance = distance::largest(format, &file, threads);
+    Ok(Written { file, distance })
 }
 
 /// The name, without its bytes from 128 up if it is not UTF-8: document 01's

@@ -3,7 +3,7 @@
 
 use crate::bench;
 use crate::bench::designs::DESIGNS;
-use crate::bench::timing::{Reads, Writes};
+use crate::bench::timing::{Reads, Told, Writes};
 use crate::inputs::lists::List;
 use crate::inputs::{hard_lists, hostile_files};
 use crate::oracle::{Format, Ready};
@@ -152,14 +152,14 @@ fn write_cmds(format: Format) -> usize {
 }
 
 /// The designs, and boundary lists: many colour changes, many threads.
-fn writes(format: Format, call: fn(&mut Writes) -> (u32, u64)) -> usize {
+fn writes(format: Format, call: fn(&mut Writes) -> Told) -> usize {
     let mut lists: Vec<_> = DESIGNS.iter().map(|design| design.list()).collect();
     lists.extend(hard_lists::boundary(format, 1).into_iter().step_by(7));
     let one = |list: &List| {
         let (ready, lists): (Ready, Lists) = (list.ready(), Lists::of(list));
         let mut writes = Writes::new(format, &ready, &lists);
         let mut number = 1;
-        let depth = depth(&mut || (number, _) = call(&mut writes));
+        let depth = depth(&mut || (number, ..) = call(&mut writes));
         assert_eq!(number, 0, "a list that is written");
         depth
     };

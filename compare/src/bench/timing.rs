@@ -3,7 +3,7 @@
 //! gives back is dropped and what the port writes to is cleared outside the times.
 
 use crate::formats::read::read_stitch_file;
-use crate::oracle::{Format, Ready};
+use crate::oracle::{Format, Ready, distance};
 use crate::port::{self, Cells, Cmd, Lists};
 use std::ffi::c_int;
 use std::hint::black_box;
@@ -152,6 +152,9 @@ impl<'a> Reads<'a> {
     }
 }
 
+/// What a write answers: number, length and distance.
+pub type Told = (u32, u64, u32);
+
 /// A list that is written again and again into the same buffer.
 pub struct Writes<'a> {
     format: Format,
@@ -176,21 +179,22 @@ impl<'a> Writes<'a> {
         self.out.fill(0);
     }
 
-    pub fn port(&mut self) -> (u32, u64) {
+    pub fn port(&mut self) -> Told {
         let ext = self.format.ext().as_bytes();
-        let mut length = 0;
-        let number = port::write(ext, black_box(self.lists), &mut self.out, &mut length);
-        black_box((number, length))
+        let (lists, out) = (black_box(self.lists), &mut self.out);
+        let (mut length, mut distance) = (0, u32::MAX);
+        let number = port::write(ext, lists, out, &mut length, &mut distance);
+        black_box((number, length, distance))
     }
 
     /// The list by its records.
-    pub fn port_cmds(&mut self) -> (u32, u64) {
+    pub fn port_cmds(&mut self) -> Told {
         let ext = self.format.ext().as_bytes();
         let (name, threads) = (&self.lists.name, &self.lists.threads);
         let (cmds, out) = (black_box(&self.cmds), &mut self.out);
-        let mut length = 0;
-        let number = port::write_cmds(ext, name, cmds, threads, out, &mut length);
-        black_box((number, length))
+        let (mut length, mut distance) = (0, u32::MAX);
+        let number = port::write_cmds(ext, name, cmds, threads, out, &mut length, &mut distance);
+        black_box((number, length, distance))
     }
 
     pub fn lay(&self) {
@@ -201,11 +205,13 @@ impl<'a> Writes<'a> {
         black_box(black_box(self.ready).write_laid(self.format))
     }
 
-    /// Whether the port's file is the Rust's.
+    /// Whether the port's file is the Rust's, and its distance that of the threads in it.
     pub fn right(&mut self) -> bool {
-        let length = self.out.len() as u64;
+        let file = self.ready.write(self.format);
+        let (threads, _) = self.lists.threads.as_chunks();
+        let distance = distance::largest(self.format, &file, threads);
         self.clear();
-        self.port() == (0, length) && self.out == self.ready.write(self.format)
+        self.port() == (0, file.len() as u64, distance) && self.out == file
     }
 
     pub fn times(&mut self, rounds: usize) -> Times {

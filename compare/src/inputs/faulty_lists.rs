@@ -2,7 +2,7 @@
 //! random ones, and lists with faults put in; most are short.
 
 use crate::inputs::lists::{self, CHANGE, EDGE, JUMP, List, Move, STITCH, TRIM};
-use crate::inputs::{boundary_lists, faults, files, hard_lists, thumbnail_designs};
+use crate::inputs::{boundary_lists, distance_lists, faults, files, hard_lists, thumbnail_designs};
 use crate::oracle::Format;
 use crate::port::Lists;
 use crate::random::Random;
@@ -23,9 +23,10 @@ const TOO_MANY: [usize; 4] = [65_536, 65_537, 70_000, 131_072];
 /// One turn of so many has such a list.
 const SELDOM: usize = 1_000;
 
-/// The boundary lists of each format, and the long ones.
+/// The boundary lists of each format, the refused ones of far threads, and the long ones.
 pub struct Boundary {
     lists: Vec<Vec<List>>,
+    refused: Vec<Vec<Asked>>,
     long: Vec<Vec<List>>,
 }
 
@@ -35,6 +36,7 @@ impl Boundary {
             lists: Format::ALL
                 .map(|format| hard_lists::boundary(format, seed))
                 .into(),
+            refused: Format::ALL.map(distance_lists::refused).into(),
             long: Format::ALL
                 .map(|format| boundary_lists::long(format, seed))
                 .into(),
@@ -42,11 +44,17 @@ impl Boundary {
     }
 
     /// The next to ask, the formats by turns: of each format in turn a list
-    /// without faults, boundary ones first, and one with faults; now and then a
-    /// dense design or a list of too many commands instead of the latter.
+    /// without faults, boundary ones first, and one with faults, those of far
+    /// threads first; now and then a dense design or a list of too many commands
+    /// instead of the latter.
     pub fn next(&self, at: usize, random: &mut Random) -> Asked {
         let (which, turn) = (at % Format::ALL.len(), at / Format::ALL.len());
         let (format, lists) = (Format::ALL[which], &self.lists[which]);
+        if turn % 2 == 1
+            && let Some(refused) = self.refused[which].get(turn / 2)
+        {
+            return refused.clone();
+        }
         if turn % SELDOM == SELDOM - 1 {
             let list = base(format, lists, random);
             return too_many(asked(format, &list, random), which, turn / SELDOM);
@@ -144,6 +152,9 @@ fn base(format: Format, boundary: &[List], random: &mut Random) -> List {
     };
     let mut list = lists::list("", &script, random);
     list.name = hard_lists::name(random);
+    if random.below(8) == 0 {
+        list.threads = distance_lists::any(random);
+    }
     list
 }
 

@@ -1,20 +1,22 @@
 //! Lists to write, hard ones: the boundary lists of the list of writes first, then
-//! more boundary lists; and random ones with random names, without end.
+//! those for the distance of threads and more boundary lists; and random ones with
+//! random names, without end.
 
 use crate::inputs::lists::{self, List};
-use crate::inputs::{boundary_lists, thumbnail_designs};
+use crate::inputs::{boundary_lists, distance_lists, thumbnail_designs};
 use crate::oracle::Format;
 use crate::random::Random;
 
 /// The boundary lists of one format.
 pub fn boundary(format: Format, seed: u64) -> Vec<List> {
     let mut found = lists::every(format, seed);
+    found.extend(distance_lists::all(format));
     found.extend(boundary_lists::all(format, seed));
     found
 }
 
 /// A random list; most are short. Every third of PEC and PES is for its
-/// thumbnails.
+/// thumbnails, and every fourth of all has other threads, often many.
 pub fn any(format: Format, random: &mut Random) -> List {
     let pictured = matches!(format, Format::Pes | Format::Pec);
     let mut list = if pictured && random.below(3) == 0 {
@@ -28,6 +30,9 @@ pub fn any(format: Format, random: &mut Random) -> List {
         };
         lists::random(format, length, random)
     };
+    if random.below(4) == 0 {
+        list.threads = distance_lists::any(random);
+    }
     if random.below(2) == 0 {
         list.name = name(random);
     }

@@ -3,6 +3,7 @@
 
 pub mod bit_pairs;
 pub mod boundary_lists;
+pub mod distance_lists;
 pub mod faults;
 pub mod faulty_lists;
 pub mod files;

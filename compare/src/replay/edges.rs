@@ -1,7 +1,7 @@
 //! The rows of crates/rules/specs/Edges.antt, each asked of the published Rust anew.
 
 use crate::inputs::faulty_lists::Asked;
-use crate::oracle::{self, Answer, Reading, refusals};
+use crate::oracle::{self, Answer, Reading, distance, refusals};
 use crate::port::Lists;
 use std::collections::BTreeMap;
 use std::path::Path;
@@ -171,17 +171,17 @@ fn holds(kind: &str, words: &mut Words) -> bool {
             let asked = words.asked(ext, name);
             let [start, count] = [words.number() as usize, words.number() as usize];
             let told = words.bytes();
-            let file = write(&asked);
-            file.is_ok_and(|file| file.into_iter().skip(start).take(count).eq(told))
+            let written = write(&asked);
+            written.is_ok_and(|(file, _)| file.into_iter().skip(start).take(count).eq(told))
         }
         "toldByWrite" => {
             let ext = words.bytes();
             let asked = words.asked(ext, Vec::new());
             let room = words.number();
-            let told = match write(&asked).map(|file| file.len() as i64) {
-                Err(number) => [number.into(), 0],
-                Ok(length) if length > room => [11, 0],
-                Ok(length) => [0, length],
+            let told = match write(&asked).map(|(file, far)| (file.len() as i64, far.into())) {
+                Err(number) => [number.into(), 0, 0],
+                Ok((length, _)) if length > room => [11, 0, 0],
+                Ok((length, far)) => [0, length, far],
             };
             told[..] == words.list()
         }
@@ -199,8 +199,8 @@ fn fitting(read: Answer, [places, runs, blocks]: [i64; 3]) -> Result<[Vec<i64>; 
     }
 }
 
-/// The file, or document 01's number for the list.
-fn write(asked: &Asked) -> Result<Vec<u8>, u8> {
+/// The file and how far off its threads are, or document 01's number for the list.
+fn write(asked: &Asked) -> Result<(Vec<u8>, u32), u8> {
     let list = &asked.list;
     let format = match (refusals::of(asked), refusals::format(&asked.ext)) {
         (0, Some(format)) => format,
@@ -209,7 +209,9 @@ fn write(asked: &Asked) -> Result<Vec<u8>, u8> {
     let places = list.xs.iter().zip(&list.ys).zip(&list.kinds);
     let cmds: Vec<_> = places.map(|((&x, &y), &kind)| (x, y, kind)).collect();
     let (threads, _) = list.threads.as_chunks();
-    Ok(oracle::write(format, &list.name, &cmds, threads))
+    let file = oracle::write(format, &list.name, &cmds, threads);
+    let far = distance::largest(format, &file, threads);
+    Ok((file, far))
 }
 
 /// Blocks (number, colour, runs), points in each run, and places, as a read gives them.

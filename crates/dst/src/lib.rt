@@ -199,13 +199,13 @@ fn put_file(name: &[u8], xs: &[i32], ys: &[i32], kinds: &[u8], out: &mut [u8]) -
 // The file, or refusal 11.
 fn write_accepted(name: &[u8], xs: &[i32], ys: &[i32], kinds: &[u8], out: &mut [u8]) -> WriteAnswer
     requires { ⌜ (length (now kinds) ≤ 65535) × (stepTooLong Dst (commands (now xs) (now ys) (now kinds)) ≡ false) ⌝ }
-    ensures { λ r. ⌜ Answered writeAnswer (dstFile (was name) (commands (was xs) (was ys) (was kinds))) (was out) (left out) r ⌝ }
+    ensures { λ r. ⌜ Answered (writeAnswer 0) (dstFile (was name) (commands (was xs) (was ys) (was kinds))) (was out) (left out) r ⌝ }
 {
     let n = DST_HEADER + stream_len(Stream::Dst, xs, ys, kinds);
     if out.len() < n {
         return WriteAnswer::Unwritten(Refusal::BufferTooShort);
     }
-    WriteAnswer::Written(put_file(name, xs, ys, kinds, out))
+    WriteAnswer::Written(put_file(name, xs, ys, kinds, out), 0)
 }
 
 // Writes a list as a DST file to the front of the buffer: its length; or why it is refused, and the buffer as it was.

@@ -8,7 +8,7 @@ use borrow.Author.Tests.{lt-ltb, le-ltb, ltb-true, ltb-false, eqb-true, eqb-fals
 use lib.Dec.{ltb, eqb}
 use lib.IntN.{ℤ}
 use lib.ListN.{length}
-use Rattle.rules.specs.Files.{fileOf, fileTold, writeVerdict, writeAnswer, filled}
+use Rattle.rules.specs.Files.{fileOf, fileTold, distanceTold, writeVerdict, writeAnswer, filled}
 use Rattle.rules.specs.Lists.{commands}
 use Rattle.rules.specs.Promises.{Wrote}
 use Rattle.rules.specs.Refusals.{badList, placeOutside, changes, tooMany, moved, stepTooLong, verdict, listRefusals, listVerdict}
@@ -25,7 +25,7 @@ use Rattle.rules.specs.declared.WriteAnswer.the-variants.{Written, Unwritten}
 use Rattle.laws.specs.Buffers.{Put, put-front}
 use Rattle.laws.specs.Tests.{by-test, or-no-left, or-no-right}
 use Rattle.laws.specs.Verdicts.{first-false, verdict-on, verdict-stop}
-use Rattle.emit.specs.Answered.{roomVerdict, Answered}
+use Rattle.emit.specs.Answered.{roomVerdict, Answered, FileAnswered}
 
 -- ---- room: the file is n cells long
 
@@ -45,13 +45,13 @@ module _ {file d : List ℕ} {n : ℕ} where
     unfolding roomVerdict verdict filled
     no-room h e = let v = lt-ltb (length d) (length file) (rw e h) in record { told = rw v; stored = rw v }
 
-  pub written : {d′ : List ℕ} {r : ℕ} → n ≤ length d → length file ≡ n → Put d d′ 0 r file → Answered writeAnswer file d d′ (Written r)
+  pub written : {d′ : List ℕ} {r k far : ℕ} → n ≤ length d → length file ≡ n → Put d d′ 0 r file → k ≡ far → Answered (writeAnswer far) file d d′ (Written r k)
   unfolding writeAnswer
-  written h e p = put-all writeAnswer h e p
+  written {far = far} h e p q = rw q (put-all (writeAnswer far) h e p)
 
-  pub unwritten : length d < n → length file ≡ n → Answered writeAnswer file d d (Unwritten BufferTooShort)
+  pub unwritten : (far : ℕ) → length d < n → length file ≡ n → Answered (writeAnswer far) file d d (Unwritten BufferTooShort)
   unfolding writeAnswer
-  unwritten h e = no-room writeAnswer h e
+  unwritten far h e = no-room (writeAnswer far) h e
 
 -- ---- the checks: v is what they told
 
@@ -69,8 +69,8 @@ module _ {f : Format} {name : List ℕ} {xs ys : List ℤ} {kinds threads d : Li
 
   -- the list is accepted, and its room decides
   pub wrote : {d′ : List ℕ} {r : WriteAnswer} → v ≡ listVerdict f xs ys kinds threads → v ≡ Accepted
-      → Answered writeAnswer (fileOf f name (commands xs ys kinds) threads) d d′ r → Wrote (Of f) name xs ys kinds threads d d′ r
-  unfolding listVerdict writeVerdict roomVerdict fileTold
+      → FileAnswered f name (commands xs ys kinds) threads d d′ r → Wrote (Of f) name xs ys kinds threads d d′ r
+  unfolding listVerdict writeVerdict roomVerdict fileTold distanceTold
   wrote t e a =
       let rs = listRefusals f xs ys kinds threads in
       let w : writeVerdict (Of f) name xs ys kinds threads (length d) ≡ roomVerdict (fileOf f name (commands xs ys kinds) threads) (length d)

@@ -25,13 +25,13 @@ ghost use Rattle.emit.specs.Answered.{Answered};
 // The file, or refusal 11.
 fn write_accepted(xs: &[i32], ys: &[i32], kinds: &[u8], out: &mut [u8]) -> WriteAnswer
     requires { ⌜ (length (now kinds) ≤ 65535) × (stepTooLong Exp (commands (now xs) (now ys) (now kinds)) ≡ false) ⌝ }
-    ensures { λ r. ⌜ Answered writeAnswer (expFile (commands (was xs) (was ys) (was kinds))) (was out) (left out) r ⌝ }
+    ensures { λ r. ⌜ Answered (writeAnswer 0) (expFile (commands (was xs) (was ys) (was kinds))) (was out) (left out) r ⌝ }
 {
     let n = stream_len(Stream::Exp, xs, ys, kinds);
     if out.len() < n {
         return WriteAnswer::Unwritten(Refusal::BufferTooShort);
     }
-    WriteAnswer::Written(put_stream(Stream::Exp, xs, ys, kinds, out, 0))
+    WriteAnswer::Written(put_stream(Stream::Exp, xs, ys, kinds, out, 0), 0)
 }
 
 // Writes a list as an EXP file to the front of the buffer: its length; or why it is refused, and the buffer as it was.

@@ -6,21 +6,20 @@ pub use rules::Cmd;
 use rules::Color;
 use rules::Extension;
 use rules::Format;
-use rules::Found;
+use rules::Nearest;
 pub use rules::Op;
 use rules::Slot;
 ghost use mathlib.Core.Path.{_≡_};
 ghost use mathlib.Core.Bool.{true, false};
 ghost use mathlib.Core.List.{[], _∷_};
-ghost use Prim.Native.Nat.{_≤_, min};
+ghost use Prim.Native.Nat.{_≤_, min, max};
 ghost use lib.ListN.{length};
 ghost use Rattle.rules.specs.Lists.{opOf, commands, minZ, maxZ};
 ghost use Rattle.rules.specs.Refusals.{lower, named, extensionOf, placeOutside};
-ghost use Rattle.rules.specs.Choices.{halfToEven, gap, weighed, distance, sameColor, nearestIndex, pecPalette};
+ghost use Rattle.rules.specs.Choices.{halfToEven, gap, weighed, distance, sameColor, away, nearestAnswer, pecPalette};
 ghost use Rattle.rules.specs.Promises.{was};
 ghost use Rattle.geom.specs.Frames.{boundsOf};
-ghost use Rattle.laws.specs.Choosing.{takes};
-ghost use Rattle.formats.specs.Best.{closerOf};
+ghost use Rattle.formats.specs.Closer.{takesOver, closerOf};
 
 // The operation that a kind stands for; a kind over 4 is refused elsewhere.
 pub fn op_of(kind: u8) -> Op
@@ -203,54 +202,67 @@ pub fn same_color(a: Color, b: Color) -> bool
     a.2 == b.2
 }
 
-// The nearest entry so far, and its distance.
-pub struct Best {
-    pub at: Found,
+// How far a colour is from the thread of an entry; 0 where it has none.
+pub fn away(color: Color, s: Slot) -> u32
+    ensures { λ r. ⌜ r ≡ away color s ⌝ }
+{
+    let Slot::Thread(t) = s else {
+        return 0;
+    };
+    color_distance(color, t)
+}
+
+// The larger of two distances.
+pub fn larger(d: u32, e: u32) -> u32
+    ensures { λ r. ⌜ r ≡ max d e ⌝ }
+{
+    if d < e {
+        return e;
+    }
+    d
+}
+
+// Where what was put ends, and the largest distance between a thread and the chart's own colour of the entry put for it.
+pub struct Matched {
+    pub end: usize,
     pub distance: u32,
 }
 
-// Whether a thread at distance d takes the lead from what was found at distance e.
-fn takes(at: Found, e: u32, d: u32) -> bool
-    ensures { λ r. ⌜ r ≡ takes true at e d ⌝ }
+// Whether a thread at distance d takes the lead from what was found.
+fn takes(best: Nearest, d: u32) -> bool
+    ensures { λ r. ⌜ r ≡ takesOver best d ⌝ }
 {
-    let Found::At(_) = at else {
+    let Nearest::Near(_, e) = best else {
         return true;
     };
     d <= e
 }
 
 // The nearest entry after entry i; of equal distances the later one.
-fn closer(color: Color, best: Best, s: Slot, i: usize) -> Best
-    ensures { λ r. ⌜ r ≡ closerOf true color best s i ⌝ }
+fn closer(color: Color, best: Nearest, s: Slot, i: usize) -> Nearest
+    ensures { λ r. ⌜ r ≡ closerOf color best s i ⌝ }
 {
     let Slot::Thread(t) = s else {
         return best;
     };
     let d = color_distance(color, t);
-    let at = best.at;
-    if takes(at, best.distance, d) {
-        return Best {
-            at: Found::At(i),
-            distance: d,
-        };
+    if takes(best, d) {
+        return Nearest::Near(i, d);
     }
     best
 }
 
-// The entry at the least distance; of equal distances the later.
-pub fn nearest_index(color: Color, palette: [Slot; 65]) -> Found
-    ensures { λ r. ⌜ r ≡ nearestIndex color palette ⌝ }
+// The entry at the least distance, and the distance; of equal distances the later.
+pub fn nearest_index(color: Color, palette: [Slot; 65]) -> Nearest
+    ensures { λ r. ⌜ r ≡ nearestAnswer color palette ⌝ }
 {
-    let mut best = Best {
-        at: Found::Missing,
-        distance: 0,
-    };
+    let mut best = Nearest::NoThread;
     let mut i = 0;
     while i < 65 {
         best = closer(color, best, palette[i], i);
         i += 1;
     }
-    best.at
+    best
 }
 
 // The entries of PEC's chart that may be chosen.

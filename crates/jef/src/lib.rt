@@ -5,10 +5,14 @@ use emit::put_times;
 use emit::put_word;
 use emit::put2;
 use emit::spread;
+use formats::Matched;
+use formats::larger;
 use formats::list_len;
 use formats::near_bounds;
 use formats::op_of;
 use jef_threads::choice_in;
+use jef_threads::distance_of;
+use jef_threads::entry_of;
 use jef_threads::jef_threads;
 use rules::Color;
 use rules::Format;
@@ -27,9 +31,8 @@ ghost use mathlib.Core.List.{[], _∷_};
 ghost use Prim.Native.Nat.{_+_, _*_, _≤_};
 ghost use lib.Dec.{ltb};
 ghost use lib.ListN.{length, replicate};
-ghost use Rattle.rules.specs.Files.{writeAnswer};
 ghost use Rattle.rules.specs.Choices.{jefEntries};
-ghost use Rattle.rules.specs.Jef.{pointsIn, pointCount, jefHoop, halfUp, edges, jefTable, words, jefHeader, jefFile};
+ghost use Rattle.rules.specs.Jef.{pointsIn, pointCount, jefHoop, halfUp, edges, jefTable, jefDistance, words, jefHeader, jefFile};
 ghost use Rattle.rules.specs.Lists.{commands, threadsOf};
 ghost use Rattle.rules.specs.Refusals.{placeOutside, stepTooLong};
 ghost use Rattle.rules.specs.Promises.{was, left, Wrote};
@@ -37,7 +40,8 @@ ghost use Rattle.rules.specs.declared.Extension.the-variants.{Of};
 ghost use Rattle.rules.specs.declared.Format.the-variants.{Jef};
 ghost use Rattle.rules.specs.declared.Previous.the-variants.{First};
 ghost use Rattle.laws.specs.Buffers.{Puts};
-ghost use Rattle.emit.specs.Answered.{Answered};
+ghost use Rattle.emit.specs.Answered.{FileAnswered};
+ghost use Rattle.formats.specs.Matches.{Matches};
 ghost use Rattle.jef.specs.Header.{startText, sizesText};
 
 fn points_in(op: Op) -> u32
@@ -126,32 +130,41 @@ fn put_edges(ex: u32, ey: u32, w: u32, h: u32, out: &mut [u8], at: usize) -> usi
     put_twice(ex - x, ey - y, out, at)
 }
 
-// The entries of the threads, each not that of a neighbour of another colour.
-fn put_entries(threads: &[u8], out: &mut [u8], at: usize) -> usize
+// The entries of the threads, each not that of a neighbour of another colour, and their largest distance.
+fn put_entries(threads: &[u8], out: &mut [u8], at: usize) -> Matched
     requires { ⌜ at + length (words (jefEntries First (threadsOf (now threads)))) ≤ length (now out) ⌝ }
-    ensures { λ r. ⌜ Puts out at r (words (jefEntries First (threadsOf (was threads)))) ⌝ }
+    ensures { λ r. ⌜ Matches out at r (words (jefEntries First (threadsOf (was threads)))) (jefDistance (threadsOf (was threads))) ⌝ }
 {
     let chart = jef_threads();
     let mut last = Previous::First;
+    let mut far: u32 = 0;
     let mut to = at;
     let mut i = 0;
     while i + 3 <= threads.len() {
         let t = Color(threads[i], threads[i + 1], threads[i + 2]);
-        let e = choice_in(chart, last, t);
+        let chosen = choice_in(chart, last, t);
+        let e = entry_of(chosen);
         last = Previous::Entry(e, t);
+        far = larger(far, distance_of(chosen));
         to = put_word(out, to, e as u32);
         i += 3;
     }
-    to
+    Matched {
+        end: to,
+        distance: far,
+    }
 }
 
 // The thread table; no threads: one entry 1.
-fn jef_palette(threads: &[u8], out: &mut [u8], at: usize) -> usize
+fn jef_palette(threads: &[u8], out: &mut [u8], at: usize) -> Matched
     requires { ⌜ at + length (words (jefTable (threadsOf (now threads)))) ≤ length (now out) ⌝ }
-    ensures { λ r. ⌜ Puts out at r (words (jefTable (threadsOf (was threads)))) ⌝ }
+    ensures { λ r. ⌜ Matches out at r (words (jefTable (threadsOf (was threads)))) (jefDistance (threadsOf (was threads))) ⌝ }
 {
     if threads.len() < 3 {
-        return put_word(out, at, 1);
+        return Matched {
+            end: put_word(out, at, 1),
+            distance: 0,
+        };
     }
     put_entries(threads, out, at)
 }
@@ -206,11 +219,12 @@ fn put_sizes(w: u32, h: u32, out: &mut [u8], at: usize) -> usize
     put_edges(700, 1000, w, h, out, fifth)
 }
 
-fn put_header(xs: &[i32], ys: &[i32], kinds: &[u8], threads: &[u8], out: &mut [u8]) -> usize
+// The header; the distance is the thread table's.
+fn put_header(xs: &[i32], ys: &[i32], kinds: &[u8], threads: &[u8], out: &mut [u8]) -> Matched
     requires { ⌜ (length (now kinds) ≤ 65535) × (length (now threads) ≤ 765) ⌝ }
     requires { ⌜ placeOutside (commands (now xs) (now ys) (now kinds)) ≡ false ⌝ }
     requires { ⌜ length (jefHeader (commands (now xs) (now ys) (now kinds)) (threadsOf (now threads))) ≤ length (now out) ⌝ }
-    ensures { λ r. ⌜ Puts out 0 r (jefHeader (commands (was xs) (was ys) (was kinds)) (threadsOf (was threads))) ⌝ }
+    ensures { λ r. ⌜ Matches out 0 r (jefHeader (commands (was xs) (was ys) (was kinds)) (threadsOf (was threads))) (jefDistance (threadsOf (was threads))) ⌝ }
 {
     let n = table_len(threads);
     let b = near_bounds(xs, ys, kinds);
@@ -219,18 +233,24 @@ fn put_header(xs: &[i32], ys: &[i32], kinds: &[u8], threads: &[u8], out: &mut [u
     let sizes = put_start(n, point_count(xs, ys, kinds), jef_hoop(w, h), out);
     let table = put_sizes(w, h, out, sizes);
     let second = jef_palette(threads, out, table);
-    put_kinds(n, out, second)
+    Matched {
+        end: put_kinds(n, out, second.end),
+        distance: second.distance,
+    }
 }
 
 // A whole file.
-fn put_file(xs: &[i32], ys: &[i32], kinds: &[u8], threads: &[u8], out: &mut [u8]) -> usize
+fn put_file(xs: &[i32], ys: &[i32], kinds: &[u8], threads: &[u8], out: &mut [u8]) -> Matched
     requires { ⌜ (length (now kinds) ≤ 65535) × ((length (now threads) ≤ 765) × (stepTooLong Jef (commands (now xs) (now ys) (now kinds)) ≡ false)) ⌝ }
     requires { ⌜ placeOutside (commands (now xs) (now ys) (now kinds)) ≡ false ⌝ }
     requires { ⌜ length (jefFile (commands (now xs) (now ys) (now kinds)) (threadsOf (now threads))) ≤ length (now out) ⌝ }
-    ensures { λ r. ⌜ Puts out 0 r (jefFile (commands (was xs) (was ys) (was kinds)) (threadsOf (was threads))) ⌝ }
+    ensures { λ r. ⌜ Matches out 0 r (jefFile (commands (was xs) (was ys) (was kinds)) (threadsOf (was threads))) (jefDistance (threadsOf (was threads))) ⌝ }
 {
     let records = put_header(xs, ys, kinds, threads, out);
-    put_stream(Stream::Jef, xs, ys, kinds, out, records)
+    Matched {
+        end: put_stream(Stream::Jef, xs, ys, kinds, out, records.end),
+        distance: records.distance,
+    }
 }
 
 // The file, or refusal 11.
@@ -243,16 +263,18 @@ fn write_accepted(
 ) -> WriteAnswer
     requires { ⌜ (length (now kinds) ≤ 65535) × ((length (now threads) ≤ 765) × (stepTooLong Jef (commands (now xs) (now ys) (now kinds)) ≡ false)) ⌝ }
     requires { ⌜ placeOutside (commands (now xs) (now ys) (now kinds)) ≡ false ⌝ }
-    ensures { λ r. ⌜ Answered writeAnswer (jefFile (commands (was xs) (was ys) (was kinds)) (threadsOf (was threads))) (was out) (left out) r ⌝ }
+    ensures { λ r. ⌜ FileAnswered Jef [] (commands (was xs) (was ys) (was kinds)) (was threads) (was out) (left out) r ⌝ }
 {
     let n = 116 + 8 * table_len(threads) + stream_len(Stream::Jef, xs, ys, kinds);
     if out.len() < n {
         return WriteAnswer::Unwritten(Refusal::BufferTooShort);
     }
-    WriteAnswer::Written(put_file(xs, ys, kinds, threads, out))
+    let w = put_file(xs, ys, kinds, threads, out);
+    WriteAnswer::Written(w.end, w.distance)
 }
 
-// Writes a list as a JEF file to the front of the buffer: its length; or why it is refused, and the buffer as it was.
+// Writes a list as a JEF file to the front of the buffer: its length, and how far off the threads are; or why it is refused, and the buffer
+// as it was.
 pub fn write_jef(
     xs: &[i32],
     ys: &[i32],

@@ -6,12 +6,13 @@ use mathlib.Core.List.{List}
 use native.Mathlib.Omega.{arith}
 use borrow.Author.Tests.{lt-ltb, le-ltb}
 use lib.ListN.{length, getD}
-use Rattle.rules.specs.Choices.{distance, nearestFirst}
+use Rattle.rules.specs.Choices.{distance, nearestFirstAnswer}
 use Rattle.rules.specs.declared.Color.{Color}
 use Rattle.rules.specs.declared.Slot.{Slot}
 use Rattle.rules.specs.declared.Slot.the-variants.{Empty, Thread}
 use Rattle.rules.specs.declared.Found.the-variants.{At, Missing}
-use Rattle.laws.specs.Choosing.{Leading, leading-none, leading-more, choice-is}
+use Rattle.rules.specs.declared.JefNearest.the-variants.{Near as JefNear, NoThread}
+use Rattle.laws.specs.Choosing.{Leading, leading-none, leading-more, answer-is}
 use Rattle.jef_threads.specs.Distances.{slotDistance}
 
 -- entry k, at distance d, leads among the first n entries
@@ -45,10 +46,12 @@ module _ (c : Color) (ps : List Slot) (n : ℕ) (l : n < 79) where
 
 -- what is chosen
 module _ (c : Color) (ps : List Slot) where
-  pub lead-missing : {k d : ℕ} → k ≡ 79 → Lead c ps (length ps) k d → Missing ≡ nearestFirst c ps
-  lead-missing e (none p) = sym (choice-is false c ps p)
+  pub lead-missing : {k d : ℕ} → k ≡ 79 → Lead c ps (length ps) k d → NoThread ≡ nearestFirstAnswer c ps
+  unfolding nearestFirstAnswer
+  lead-missing e (none p) = sym (answer-is JefNear NoThread false c ps p)
   lead-missing e (some i m p) = absurd (omega arith)
 
-  pub lead-found : {k d : ℕ} → (k ≡ 79 → ⊥) → Lead c ps (length ps) k d → At k ≡ nearestFirst c ps
+  pub lead-found : {k d : ℕ} → (k ≡ 79 → ⊥) → Lead c ps (length ps) k d → JefNear k d ≡ nearestFirstAnswer c ps
+  unfolding nearestFirstAnswer
   lead-found e (none p) = absurd (e refl)
-  lead-found e (some i m p) = sym (choice-is false c ps p)
+  lead-found e (some i m p) = sym (answer-is JefNear NoThread false c ps p)

@@ -1,14 +1,14 @@
-// JEF: the entry of the chart for each thread.
+// JEF: the entry of the chart for each thread, and its distance.
 // A port of src/formats/more.rs of zigzag, changed.
 use rules::Color;
-use rules::Found;
+use rules::JefNearest;
 use rules::Previous;
 use rules::Slot;
 ghost use mathlib.Core.Path.{_≡_};
 ghost use lib.ListN.{set};
-ghost use Rattle.rules.specs.Choices.{nearestFirst, jefPalette, entryOf, jefChoice};
+ghost use Rattle.rules.specs.Choices.{nearestFirstAnswer, jefPalette, jefChoiceAnswer};
 ghost use Rattle.rules.specs.declared.Slot.the-variants.{Empty};
-ghost use Rattle.jef_threads.specs.Distances.{slotDistance};
+ghost use Rattle.jef_threads.specs.Distances.{slotDistance, entryIn, distanceIn};
 
 // The entries of the chart that may be chosen.
 pub fn jef_threads() -> [Slot; 79]
@@ -45,9 +45,9 @@ fn slot_distance(color: Color, s: Slot) -> u32
     formats::color_distance(color, t)
 }
 
-// The entry at the least distance; of equal distances the first.
-fn nearest_first(color: Color, palette: [Slot; 79]) -> Found
-    ensures { λ r. ⌜ r ≡ nearestFirst color palette ⌝ }
+// The entry at the least distance, and the distance; of equal distances the first.
+fn nearest_first(color: Color, palette: [Slot; 79]) -> JefNearest
+    ensures { λ r. ⌜ r ≡ nearestFirstAnswer color palette ⌝ }
 {
     let mut at: usize = 79;
     let mut least: u32 = 4294967295;
@@ -61,38 +61,49 @@ fn nearest_first(color: Color, palette: [Slot; 79]) -> Found
         i += 1;
     }
     if at == 79 {
-        return Found::Missing;
+        return JefNearest::NoThread;
     }
-    Found::At(at)
+    JefNearest::Near(at, least)
 }
 
-fn entry_of(f: Found) -> usize
-    ensures { λ r. ⌜ r ≡ entryOf f ⌝ }
+// The entry of an answer; 1 where there is no thread to choose.
+pub fn entry_of(f: JefNearest) -> usize
+    ensures { λ r. ⌜ r ≡ entryIn f ⌝ }
 {
     match f {
-        Found::At(i) => i,
-        Found::Missing => 1,
+        JefNearest::Near(i, _) => i,
+        JefNearest::NoThread => 1,
+    }
+}
+
+// The distance of an answer; 0 where there is no thread to choose.
+pub fn distance_of(f: JefNearest) -> u32
+    ensures { λ r. ⌜ r ≡ distanceIn f ⌝ }
+{
+    match f {
+        JefNearest::Near(_, d) => d,
+        JefNearest::NoThread => 0,
     }
 }
 
 // The nearest entry but one.
-fn nearest_but(chart: [Slot; 79], t: Color, skip: usize) -> usize
-    ensures { λ r. ⌜ r ≡ entryOf (nearestFirst t (set chart skip Empty)) ⌝ }
+fn nearest_but(chart: [Slot; 79], t: Color, skip: usize) -> JefNearest
+    ensures { λ r. ⌜ r ≡ nearestFirstAnswer t (set chart skip Empty) ⌝ }
 {
     let palette = without(chart, skip);
-    entry_of(nearest_first(t, palette))
+    nearest_first(t, palette)
 }
 
-// The entry for a thread, with the chart at hand: the nearest, but never that of a neighbour of another colour.
-pub fn choice_in(chart: [Slot; 79], last: Previous, t: Color) -> usize
+// The entry for a thread and its distance, with the chart at hand: the nearest, but never that of a neighbour of another colour.
+pub fn choice_in(chart: [Slot; 79], last: Previous, t: Color) -> JefNearest
     requires { ⌜ chart ≡ jefPalette ⌝ }
-    ensures { λ r. ⌜ r ≡ jefChoice last t ⌝ }
+    ensures { λ r. ⌜ r ≡ jefChoiceAnswer last t ⌝ }
 {
-    let nearest = entry_of(nearest_first(t, chart));
+    let nearest = nearest_first(t, chart);
     let Previous::Entry(i, u) = last else {
         return nearest;
     };
-    if nearest != i {
+    if entry_of(nearest) != i {
         return nearest;
     }
     if formats::same_color(u, t) {
@@ -101,8 +112,8 @@ pub fn choice_in(chart: [Slot; 79], last: Previous, t: Color) -> usize
     nearest_but(chart, t, i)
 }
 
-pub fn jef_choice(last: Previous, t: Color) -> usize
-    ensures { λ r. ⌜ r ≡ jefChoice last t ⌝ }
+pub fn jef_choice(last: Previous, t: Color) -> JefNearest
+    ensures { λ r. ⌜ r ≡ jefChoiceAnswer last t ⌝ }
 {
     choice_in(jef_threads(), last, t)
 }

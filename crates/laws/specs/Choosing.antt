@@ -13,12 +13,14 @@ use borrow.Author.Tests.{leb-true, leb-false, ltb-true, ltb-false, le-leb}
 use lib.Dec.{leb, ltb}
 use lib.ListN.{length, getD, drop, length-map}
 use Rattle.rules.specs.Vocabulary.{pick}
-use Rattle.rules.specs.Choices.{distance, noNearer, nearest, nearestIndex, nearestFirst, choices}
+use Rattle.rules.specs.Choices.{distance, noNearer, nearest, nearestIndex, nearestFirst, away, withDistance, nearestAnswer, choices}
 use Rattle.rules.specs.declared.Color.{Color}
 use Rattle.rules.specs.declared.Slot.{Slot}
 use Rattle.rules.specs.declared.Slot.the-variants.{Empty, Thread}
 use Rattle.rules.specs.declared.Found.{Found}
 use Rattle.rules.specs.declared.Found.the-variants.{At, Missing}
+use Rattle.rules.specs.declared.Nearest.{Nearest}
+use Rattle.rules.specs.declared.Nearest.the-variants.{Near, NoThread}
 use Rattle.laws.specs.Tests.{by-test}
 use Rattle.laws.specs.Listing.{list-more}
 use Rattle.laws.specs.Searches.{Where, before, after, Nowhere, all-from, all-at, first-is, first-none, last-is, last-none}
@@ -202,6 +204,33 @@ pub choice-missing : (later : Bool) (c : Color) (ps : List Slot) → choice late
 choice-missing later c ps e =
     let l = leader later c ps (length ps) in
     missing-of later c ps (sym (choice-is later c ps (l .leading)) ∙ e) (l .leading)
+
+-- ---- what a choice answers
+
+-- the answer for what leads: `near` of its index and its distance, or `not`
+abbrev pub leadAnswer : {A : Type 0} → (ℕ → ℕ → A) → A → Found → ℕ → A
+leadAnswer near not (At k) d = near k d
+leadAnswer near not Missing d = not
+
+pub answer-is : {A : Type 0} (near : ℕ → ℕ → A) (not : A) (later : Bool) (c : Color) (ps : List Slot) {at : Found} {d : ℕ}
+    → Leading later c ps (length ps) at d → withDistance near not c ps (choice later c ps) ≡ leadAnswer near not at d
+unfolding withDistance away
+answer-is near not later c ps {d = d} (none h) = rw (choice-is later c ps (none {d = d} h))
+answer-is near not later c ps (some w) = rw (choice-is later c ps (some w), w .there)
+
+-- the place in an answer of `nearest_index`
+abbrev pub foundIn : Nearest → Found
+foundIn (Near k d) = At k
+foundIn NoThread = Missing
+
+found-with : (c : Color) (ps : List Slot) (f : Found) → foundIn (withDistance Near NoThread c ps f) ≡ f
+unfolding withDistance
+found-with c ps (At k) = refl
+found-with c ps Missing = refl
+
+pub found-in : (c : Color) (ps : List Slot) → foundIn (nearestAnswer c ps) ≡ nearestIndex c ps
+unfolding nearestAnswer
+found-in c ps = found-with c ps (nearestIndex c ps)
 
 -- ---- a chart's entries that may be chosen
 

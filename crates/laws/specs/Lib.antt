@@ -9,8 +9,10 @@ pub mod Little
 pub mod Decimals
 pub mod Searches
 pub mod Choosing
+pub mod Farthest
 pub mod Listing
 pub mod Neighbours
+pub mod Entries
 pub mod Reading
 pub mod Verdicts
 pub mod Arms

@@ -10,12 +10,15 @@ use lib.Dec.{eqb, lit<}
 use lib.ListN.{length, getD, set, length-set}
 use lib.Seq.{getD-set-same, getD-set-other}
 use Rattle.rules.specs.Charts.{color, jefChart}
-use Rattle.rules.specs.Choices.{sameColor, nearestFirst, choices, jefPalette, entryOf, jefNearest, jefChoice}
+use Rattle.rules.specs.Choices.{sameColor, nearestFirst, away, withDistance, nearestFirstAnswer}
+use Rattle.rules.specs.Choices.{choices, jefPalette, entryOf, jefNearest, jefChoice, jefChoiceAnswer}
 use Rattle.rules.specs.declared.Color.{Color}
 use Rattle.rules.specs.declared.Slot.{Slot}
 use Rattle.rules.specs.declared.Slot.the-variants.{Empty, Thread}
 use Rattle.rules.specs.declared.Found.{Found}
 use Rattle.rules.specs.declared.Found.the-variants.{At, Missing}
+use Rattle.rules.specs.declared.JefNearest.{JefNearest}
+use Rattle.rules.specs.declared.JefNearest.the-variants.{Near, NoThread}
 use Rattle.rules.specs.declared.Previous.{Previous}
 use Rattle.rules.specs.declared.Previous.the-variants.{First, Entry}
 use Rattle.laws.specs.Tests.{by-test}
@@ -68,10 +71,8 @@ entry-found t skip k e =
     apart : (k : ℕ) {u : Color} → k < 79 → getD (set jefPalette skip Empty) k Empty ≡ Thread u → k ≢ skip
     apart k h q e = no-thread (sym (subst (λ (m : ℕ). getD (set jefPalette skip Empty) m Empty ≡ Empty) (sym e) (left-out skip (rw (← e) h))) ∙ q)
 
-found : (t : Color) (skip : ℕ) (f : Found) → nearestFirst t (set jefPalette skip Empty) ≡ f → JefEntry skip (entryOf f)
-unfolding entryOf
-found t skip (At k) e = entry-found t skip k e
-found t skip Missing e = absurd (go (ℕ-discrete 1 skip))
+never-missing : (t : Color) (skip : ℕ) → nearestFirst t (set jefPalette skip Empty) ≡ Missing → ⊥
+never-missing t skip e = go (ℕ-discrete 1 skip)
   where
     all : (j : ℕ) → j < 79 → getD (set jefPalette skip Empty) j Empty ≡ Empty
     all j h = choice-missing false t (set jefPalette skip Empty) e j (rw (length-set, palette-length) h)
@@ -79,6 +80,11 @@ found t skip Missing e = absurd (go (ℕ-discrete 1 skip))
     go : Dec (1 ≡ skip) → ⊥
     go (yes p) = no-thread (sym (subst (λ (m : ℕ). getD (set jefPalette m Empty) 2 Empty ≡ Empty) (sym p) (all 2 (lit< tt))) ∙ thread-two)
     go (no q) = no-thread (sym (all 1 (lit< tt)) ∙ thread-one skip q)
+
+found : (t : Color) (skip : ℕ) (f : Found) → nearestFirst t (set jefPalette skip Empty) ≡ f → JefEntry skip (entryOf f)
+unfolding entryOf
+found t skip (At k) e = entry-found t skip k e
+found t skip Missing e = absurd (never-missing t skip e)
 
 pub jef-nearest : (t : Color) (skip : ℕ) → JefEntry skip (jefNearest t skip)
 unfolding jefNearest
@@ -98,3 +104,23 @@ unfolding jefChoice
 jef-apart i u t d = by-test (eqb (jefNearest t 0) i)
     (λ e. rw (e, d) (jef-nearest t i .other))
     (λ e. rw e (eqb-false (jefNearest t 0) i e))
+
+-- ---- the distance of an entry chosen is that of the chart's own colour
+
+abbrev pub chosenAt : Color → ℕ → JefNearest
+chosenAt t k = Near k (away t (getD jefPalette k Empty))
+
+with-entry : (t : Color) (skip : ℕ) (f : Found) → nearestFirst t (set jefPalette skip Empty) ≡ f
+    → withDistance Near NoThread t (set jefPalette skip Empty) f ≡ chosenAt t (entryOf f)
+unfolding withDistance entryOf
+with-entry t skip (At k) e = rw (getD-set-other jefPalette skip k Empty Empty (entry-found t skip k e .other))
+with-entry t skip Missing e = absurd (never-missing t skip e)
+
+pub jef-nearest-told : (t : Color) (skip : ℕ) → nearestFirstAnswer t (set jefPalette skip Empty) ≡ chosenAt t (jefNearest t skip)
+unfolding nearestFirstAnswer jefNearest
+jef-nearest-told t skip = with-entry t skip (nearestFirst t (set jefPalette skip Empty)) refl
+
+-- JEF's choice, by its entry
+pub jef-choice-told : (last : Previous) (t : Color) {n : ℕ} → n ≡ jefChoice last t → chosenAt t n ≡ jefChoiceAnswer last t
+unfolding jefChoiceAnswer
+jef-choice-told last t e = rw e

@@ -1,26 +1,28 @@
 -- The loop that gives each distinct thread an entry, and the entries of all threads. Assumes nothing.
-use Prim.Native.Nat.{ℕ, _+_, _≤_, _<_}
-use mathlib.Core.Path.{_≡_, refl, sym, _∙_}
+use Prim.Native.Nat.{ℕ, _+_, _≤_, _<_, max}
+use mathlib.Core.Path.{_≡_, refl, sym, ap, _∙_}
 use mathlib.Core.Bool.{Bool, true, false, _&&_, _||_}
-use mathlib.Core.List.{List, [], _∷_, _++_, map}
+use mathlib.Core.List.{List, [], _∷_, _++_}
 use native.Mathlib.Numerals.{add-one}
+use native.Mathlib.Omega.{arith}
 use borrow.Author.Tests.{eqb-true}
 use lib.Dec.{eqb}
 use lib.ListN.{length, getD, take, drop, replicate, length-map}
 use lib.Seq.{take-suc}
 use Rattle.rules.specs.Vocabulary.{pick, any}
 use Rattle.rules.specs.Charts.{color}
-use Rattle.rules.specs.Choices.{sameColor, nearestIndex, pecPalette}
-use Rattle.rules.specs.Pec.{distinct, Given, give, givenTo, foundOr, uniquePalette}
+use Rattle.rules.specs.Choices.{sameColor, nearestIndex, nearestAnswer, away, pecPalette}
+use Rattle.rules.specs.Pec.{distinct, Given, give, givenTo, foundOr, uniquePalette, pecDistance}
 use Rattle.rules.specs.declared.Color.{Color}
-use Rattle.rules.specs.declared.Found.{Found}
-use Rattle.rules.specs.declared.Found.the-variants.{At, Missing}
+use Rattle.rules.specs.declared.Nearest.{Nearest}
+use Rattle.rules.specs.declared.Nearest.the-variants.{Near, NoThread}
 use Rattle.rules.specs.declared.Slot.{Slot}
 use Rattle.rules.specs.declared.Slot.the-variants.{Empty, Thread}
 use Rattle.laws.specs.Tests.{by-test, and-left, and-right}
-use Rattle.laws.specs.Choosing.{choice-law}
+use Rattle.laws.specs.Choosing.{choice-law, foundIn, found-in}
+use Rattle.laws.specs.Farthest.{far-more, far-end}
 use Rattle.laws.specs.Listing.{list-more, list-end}
-use Rattle.pec_palette.specs.Entries.{setAt}
+use Rattle.pec_palette.specs.Entries.{setAt, entriesIn, offIn}
 
 -- nothing is given yet
 abbrev pub fresh : Given
@@ -89,28 +91,26 @@ module _ (ts : List Color) (i : ℕ) {t : Color} {g : Given} (h : i < length ts)
     rest = rw (next, w .same t, y) at (w .rest);
   }
 
-  pub giving-more : {found : Found} → found ≡ pick (any (sameColor t) (take i ts)) Missing (nearestIndex t (g .free)) → Giving ts (i + 1) (give found t g)
+  pub giving-more : {found : Nearest} → found ≡ pick (any (sameColor t) (take i ts)) NoThread (nearestAnswer t (g .free))
+      → Giving ts (i + 1) (give (foundIn found) t g)
   unfolding give
   giving-more f = by-test (any (sameColor t) (take i ts))
       (λ y. rw (f, y) (again y))
-      (λ y. rw (f, y) (anew y))
+      (λ y. rw (f, y, found-in t (g .free)) (anew y))
 
 -- an entry given is one filled in both
-pub given-is : (found : Found) (t : Color) (free chart : List Slot)
-    → _≡_ {A = Given} (record { free = setAt found Empty free; chart = setAt found (Thread t) chart }) (give found t (record { free = free; chart = chart }))
+pub given-is : (found : Nearest) (t : Color) (free chart : List Slot)
+    → _≡_ {A = Given} (record { free = setAt found Empty free; chart = setAt found (Thread t) chart })
+    (give (foundIn found) t (record { free = free; chart = chart }))
 unfolding setAt give
-given-is (At i) t free chart = refl
-given-is Missing t free chart = refl
+given-is (Near i d) t free chart = refl
+given-is NoThread t free chart = refl
 
 pub giving-end : (ts : List Color) (i : ℕ) {g : Given} → length ts ≤ i → Giving ts i g → g ≡ givenTo fresh (distinct [] ts)
 unfolding distinct givenTo
 giving-end ts i h w = rw (list-end ts i h) at (w .rest)
 
 -- ---- the entries of all threads, by the chart
-
--- the bytes of the threads by a chart
-abbrev pub entriesIn : List Slot → List Color → List ℕ
-entriesIn chart ts = map (λ (t : Color). foundOr 0 (nearestIndex t chart)) ts
 
 pub palette-is : (ts : List Color) {chart : List Slot} → chart ≡ givenTo fresh (distinct [] ts) .chart → entriesIn chart ts ≡ uniquePalette ts
 unfolding uniquePalette
@@ -129,5 +129,33 @@ entries-end chart ts i h = rw (list-end ts i h)
 
 -- ---- an entry found is one of the chart
 
-pub found-inside : (t : Color) (palette : List Slot) {k : ℕ} {found : Found} → found ≡ nearestIndex t palette → found ≡ At k → k < length palette
-found-inside t palette {k} e f = choice-law true t palette k (sym e ∙ f) .1 .inside
+module _ (t : Color) (palette : List Slot) {found : Nearest} (e : found ≡ nearestAnswer t palette) where
+  pub found-as : {g : Nearest} → found ≡ g → nearestIndex t palette ≡ foundIn g
+  found-as h = sym (found-in t palette) ∙ ap foundIn (sym e ∙ h)
+
+  pub found-inside : {k d : ℕ} → found ≡ Near k d → k < length palette
+  found-inside {k} h = choice-law true t palette k (found-as h) .1 .inside
+
+-- ---- how far off the threads before i are, with the threads to come
+
+module _ (own chart : List Slot) (ts : List Color) where
+  abbrev pub Off : ℕ → ℕ → Type 0
+  Off i far = max far (offIn own chart (drop i ts)) ≡ offIn own chart ts
+
+  pub off-start : Off 0 0
+  off-start = omega arith
+
+  pub off-more : (i : ℕ) {t : Color} {e d far′ : ℕ} (far : ℕ) → i < length ts → t ≡ getD ts i (color 0 0 0) → e ≡ foundOr 0 (nearestIndex t chart)
+      → d ≡ away t (getD own e Empty) → far′ ≡ max far d → Off i far → Off (i + 1) far′
+  off-more i {t} {e} far h at found off larger w =
+      rw (larger, off)
+      (sym (far-more own far t (drop (i + 1) ts) e (entriesIn chart (drop (i + 1) ts))) ∙ rw (list-more ts (color 0 0 0) i h, ← at, ← found) at w)
+
+  pub off-end : (i far : ℕ) → length ts ≤ i → Off i far → far ≡ offIn own chart ts
+  off-end i far h w = sym (far-end own far []) ∙ rw (list-end ts i h) at w
+
+-- by the chart in which each distinct thread has its own entry
+pub off-all : (ts : List Color) {own chart : List Slot} → own ≡ pecPalette → chart ≡ givenTo fresh
+    (distinct [] ts) .chart → offIn own chart ts ≡ pecDistance ts
+unfolding pecDistance
+off-all ts p e = rw (p, palette-is ts e)

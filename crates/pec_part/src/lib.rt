@@ -10,6 +10,7 @@ use emit::put2;
 use emit::put3;
 use emit::put4;
 use emit::spread;
+use formats::Matched;
 use geom::Bounds;
 use pec::pec_encode;
 use pec_palette::unique_palette;
@@ -22,11 +23,12 @@ ghost use Prim.Native.Nat.{_+_, _-_, _≤_};
 ghost use lib.IntN.{pos};
 ghost use lib.ListN.{length, replicate};
 ghost use Rattle.rules.specs.Lists.{commands, threadsOf};
-ghost use Rattle.rules.specs.Pec.{pecStart, pecStitches, uniquePalette, pecColors, pecHeader, pecPart};
+ghost use Rattle.rules.specs.Pec.{pecStart, pecStitches, uniquePalette, pecDistance, pecColors, pecHeader, pecPart};
 ghost use Rattle.rules.specs.Refusals.{stepTooLong};
 ghost use Rattle.rules.specs.Promises.{was};
 ghost use Rattle.rules.specs.declared.Format.the-variants.{Pec};
 ghost use Rattle.laws.specs.Buffers.{Puts};
+ghost use Rattle.formats.specs.Matches.{Matches};
 ghost use Rattle.geom.specs.Frames.{boundsOf};
 ghost use Rattle.pec_part.specs.Parts.{labelText, sizesText, partLong};
 
@@ -53,15 +55,18 @@ fn put_no_colors(out: &mut [u8], at: usize) -> usize
     put(out, count, 0xFF)
 }
 
-// 12 blanks, the count less one and the entries.
-fn put_colors(threads: &[u8], out: &mut [u8], at: usize) -> usize
+// 12 blanks, the count less one and the entries; the distance is that of the entries, as in all that follows.
+fn put_colors(threads: &[u8], out: &mut [u8], at: usize) -> Matched
     requires { ⌜ length (now threads) ≤ 765 ⌝ }
     requires { ⌜ at + (13 + length (threadsOf (now threads))) ≤ length (now out) ⌝ }
-    ensures { λ r. ⌜ Puts out at r (pecColors (uniquePalette (threadsOf (was threads)))) ⌝ }
+    ensures { λ r. ⌜ Matches out at r (pecColors (uniquePalette (threadsOf (was threads)))) (pecDistance (threadsOf (was threads))) ⌝ }
 {
     let n = threads.len() / 3;
     if n == 0 {
-        return put_no_colors(out, at);
+        return Matched {
+            end: put_no_colors(out, at),
+            distance: 0,
+        };
     }
     let count = put_times(out, at, 0x20, 12);
     let entries = put(out, count, (n - 1) as u8);
@@ -79,14 +84,17 @@ fn put_fill(n: usize, out: &mut [u8], at: usize) -> usize
 }
 
 // The header: 512 bytes.
-fn put_header(name: &[u8], threads: &[u8], out: &mut [u8], at: usize) -> usize
+fn put_header(name: &[u8], threads: &[u8], out: &mut [u8], at: usize) -> Matched
     requires { ⌜ length (now threads) ≤ 765 ⌝ }
     requires { ⌜ at + 512 ≤ length (now out) ⌝ }
-    ensures { λ r. ⌜ Puts out at r (pecHeader (was name) (threadsOf (was threads))) ⌝ }
+    ensures { λ r. ⌜ Matches out at r (pecHeader (was name) (threadsOf (was threads))) (pecDistance (threadsOf (was threads))) ⌝ }
 {
     let colors = put_label(name, out, at);
     let fill = put_colors(threads, out, colors);
-    put_fill(threads.len() / 3, out, fill)
+    Matched {
+        end: put_fill(threads.len() / 3, out, fill.end),
+        distance: fill.distance,
+    }
 }
 
 // What stands before n bytes of stitches.
@@ -115,19 +123,23 @@ pub fn write_pec(
     n: usize,
     out: &mut [u8],
     at: usize,
-) -> usize
+) -> Matched
     requires { ⌜ b ≡ boundsOf (commands (now xs) (now ys) (now kinds)) ⌝ }
     requires { ⌜ (length (now kinds) ≤ 65535) × ((length (now threads) ≤ 765) × (stepTooLong Pec (commands (now xs) (now ys) (now kinds)) ≡ false)) ⌝ }
     requires { ⌜ n ≡ length (pecStitches pecStart (pos 0) (pos 0) (commands (now xs) (now ys) (now kinds))) ⌝ }
     requires { ⌜ at + length (pecPart (now name) (commands (now xs) (now ys) (now kinds)) (threadsOf (now threads))) ≤ length (now out) ⌝ }
-    ensures { λ r. ⌜ Puts out at r (pecPart (was name) (commands (was xs) (was ys) (was kinds)) (threadsOf (was threads))) ⌝ }
+    ensures { λ r. ⌜ Matches out at r (pecPart (was name) (commands (was xs) (was ys) (was kinds)) (threadsOf (was threads)))
+        (pecDistance (threadsOf (was threads))) ⌝ }
 {
     let w = spread(b.min.x, b.max.x);
     let h = spread(b.min.y, b.max.y);
     let block = put_header(name, threads, out, at);
-    let stitches = put_sizes(n, w, h, out, block);
+    let stitches = put_sizes(n, w, h, out, block.end);
     let pictures = pec_encode(xs, ys, kinds, out, stitches);
-    put_icons(b, xs, ys, kinds, out, pictures)
+    Matched {
+        end: put_icons(b, xs, ys, kinds, out, pictures),
+        distance: block.distance,
+    }
 }
 
 // How long the part is, its stitches taking n bytes.

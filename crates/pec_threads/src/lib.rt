@@ -3,7 +3,7 @@
 use formats::nearest_index;
 use formats::pec_palette;
 use rules::Color;
-use rules::Found;
+use rules::Nearest;
 use rules::Slot;
 ghost use mathlib.Core.Path.{_≡_};
 ghost use Prim.Native.Nat.{_<_};
@@ -39,7 +39,7 @@ fn code_in(chart: [Slot; 65], t: Color) -> usize
     ensures { λ r. ⌜ r ≡ codeOf t ⌝ }
 {
     let found = nearest_index(t, chart);
-    let Found::At(k) = found else {
+    let Nearest::Near(k, _) = found else {
         return 1;
     };
     k

@@ -3,6 +3,7 @@
 use emit::put_short;
 use emit::put_text;
 use emit::put_word;
+use formats::Matched;
 use formats::stream_bounds;
 use geom::Bounds;
 use pec::pec_len;
@@ -22,9 +23,8 @@ ghost use mathlib.Core.Path.{_≡_};
 ghost use mathlib.Core.Bool.{false};
 ghost use Prim.Native.Nat.{_+_, _≤_};
 ghost use lib.ListN.{length};
-ghost use Rattle.rules.specs.Files.{writeAnswer};
 ghost use Rattle.rules.specs.Lists.{commands, threadsOf};
-ghost use Rattle.rules.specs.Pec.{pecFile};
+ghost use Rattle.rules.specs.Pec.{pecDistance, pecFile};
 ghost use Rattle.rules.specs.Pes.{pesFile};
 ghost use Rattle.rules.specs.Refusals.{placeOutside, stepTooLong};
 ghost use Rattle.rules.specs.Promises.{was, left, Wrote};
@@ -33,7 +33,8 @@ ghost use Rattle.rules.specs.declared.Format.the-variants.{Pes, Pec};
 ghost use Rattle.laws.specs.Buffers.{Puts};
 ghost use Rattle.geom.specs.Frames.{boundsOf};
 ghost use Rattle.pec_threads.specs.Codes.{Coded};
-ghost use Rattle.emit.specs.Answered.{Answered};
+ghost use Rattle.emit.specs.Answered.{FileAnswered};
+ghost use Rattle.formats.specs.Matches.{Matches};
 ghost use Rattle.pes_sections.specs.States.{measures};
 ghost use Rattle.pes.specs.Lists.{Drawn, startText};
 
@@ -47,11 +48,12 @@ fn put_pec_file(
     threads: &[u8],
     n: usize,
     out: &mut [u8],
-) -> usize
+) -> Matched
     requires { ⌜ b ≡ boundsOf (commands (now xs) (now ys) (now kinds)) ⌝ }
     requires { ⌜ Drawn (commands (now xs) (now ys) (now kinds)) (now kinds) (now threads) n ⌝ }
     requires { ⌜ length (pecFile (now name) (commands (now xs) (now ys) (now kinds)) (threadsOf (now threads))) ≤ length (now out) ⌝ }
-    ensures { λ r. ⌜ Puts out 0 r (pecFile (was name) (commands (was xs) (was ys) (was kinds)) (threadsOf (was threads))) ⌝ }
+    ensures { λ r. ⌜ Matches out 0 r (pecFile (was name) (commands (was xs) (was ys) (was kinds)) (threadsOf (was threads)))
+        (pecDistance (threadsOf (was threads))) ⌝ }
 {
     let part = put_text(out, 0, b"#PEC0001");
     write_pec(b, name, xs, ys, kinds, threads, n, out, part)
@@ -67,7 +69,7 @@ fn pec_accepted(
     out: &mut [u8],
 ) -> WriteAnswer
     requires { ⌜ (length (now kinds) ≤ 65535) × ((length (now threads) ≤ 765) × (stepTooLong Pec (commands (now xs) (now ys) (now kinds)) ≡ false)) ⌝ }
-    ensures { λ r. ⌜ Answered writeAnswer (pecFile (was name) (commands (was xs) (was ys) (was kinds)) (threadsOf (was threads))) (was out) (left out) r ⌝ }
+    ensures { λ r. ⌜ FileAnswered Pec (was name) (commands (was xs) (was ys) (was kinds)) (was threads) (was out) (left out) r ⌝ }
 {
     let n = pec_len(xs, ys, kinds);
     let long = 8 + part_len(xs, ys, kinds, threads, n);
@@ -75,10 +77,12 @@ fn pec_accepted(
         return WriteAnswer::Unwritten(Refusal::BufferTooShort);
     }
     let b = stream_bounds(xs, ys, kinds);
-    WriteAnswer::Written(put_pec_file(b, name, xs, ys, kinds, threads, n, out))
+    let w = put_pec_file(b, name, xs, ys, kinds, threads, n, out);
+    WriteAnswer::Written(w.end, w.distance)
 }
 
-// Writes a list as a PEC file to the front of the buffer: its length; or why it is refused, and the buffer as it was.
+// Writes a list as a PEC file to the front of the buffer: its length, and how far off the threads are; or why it is refused, and the buffer
+// as it was.
 pub fn write_pec_file(
     name: &[u8],
     xs: &[i32],
@@ -122,7 +126,7 @@ fn put_pes_file(
     z: Sizes,
     n: usize,
     out: &mut [u8],
-) -> usize
+) -> Matched
     requires { ⌜ b ≡ boundsOf (commands (now xs) (now ys) (now kinds)) ⌝ }
     requires { ⌜ Coded (threadsOf (now threads)) (now codes) ⌝ }
     requires { ⌜ Drawn (commands (now xs) (now ys) (now kinds)) (now kinds) (now threads) n ⌝ }
@@ -130,7 +134,8 @@ fn put_pes_file(
     requires { ⌜ measures (threadsOf (now threads)) (commands (now xs) (now ys) (now kinds)) z ⌝ }
     requires { ⌜ (z .bytes ≤ 1048560) × (z .logged ≤ 65535) ⌝ }
     requires { ⌜ length (pesFile (now name) (commands (now xs) (now ys) (now kinds)) (threadsOf (now threads))) ≤ length (now out) ⌝ }
-    ensures { λ r. ⌜ Puts out 0 r (pesFile (was name) (commands (was xs) (was ys) (was kinds)) (threadsOf (was threads))) ⌝ }
+    ensures { λ r. ⌜ Matches out 0 r (pesFile (was name) (commands (was xs) (was ys) (was kinds)) (threadsOf (was threads)))
+        (pecDistance (threadsOf (was threads))) ⌝ }
 {
     let long = blocks_len(z);
     let blocks = put_start((22 + long) as u32, out);
@@ -149,7 +154,7 @@ fn pes_accepted(
 ) -> WriteAnswer
     requires { ⌜ (length (now kinds) ≤ 65535) × ((length (now threads) ≤ 765) × (stepTooLong Pes (commands (now xs) (now ys) (now kinds)) ≡ false)) ⌝ }
     requires { ⌜ placeOutside (commands (now xs) (now ys) (now kinds)) ≡ false ⌝ }
-    ensures { λ r. ⌜ Answered writeAnswer (pesFile (was name) (commands (was xs) (was ys) (was kinds)) (threadsOf (was threads))) (was out) (left out) r ⌝ }
+    ensures { λ r. ⌜ FileAnswered Pes (was name) (commands (was xs) (was ys) (was kinds)) (was threads) (was out) (left out) r ⌝ }
 {
     let codes = thread_codes(threads);
     let z = measured(&codes, threads, xs, ys, kinds);
@@ -159,10 +164,12 @@ fn pes_accepted(
         return WriteAnswer::Unwritten(Refusal::BufferTooShort);
     }
     let b = stream_bounds(xs, ys, kinds);
-    WriteAnswer::Written(put_pes_file(b, name, xs, ys, kinds, &codes, threads, z, n, out))
+    let w = put_pes_file(b, name, xs, ys, kinds, &codes, threads, z, n, out);
+    WriteAnswer::Written(w.end, w.distance)
 }
 
-// Writes a list as a PES file to the front of the buffer: its length; or why it is refused, and the buffer as it was.
+// Writes a list as a PES file to the front of the buffer: its length, and how far off the threads are in its PEC part; or why it is
+// refused, and the buffer as it was.
 pub fn pes_from_stream(
     name: &[u8],
     xs: &[i32],

@@ -4,7 +4,7 @@ use replay::bytes::byte;
 use replay::bytes::signed_word;
 use replay::bytes::word;
 use rules::Color;
-use rules::Found;
+use rules::Nearest;
 use rules::Previous;
 use rules::Slot;
 ghost use Prim.Native.Nat.{_<_};
@@ -30,10 +30,10 @@ fn distance(case: &[u8]) -> bool {
     (d as usize) == word(case, 7) + 65536 * word(case, 9)
 }
 
-fn entry(f: Found) -> usize {
+fn entry(f: Nearest) -> usize {
     match f {
-        Found::At(i) => i,
-        Found::Missing => 255,
+        Nearest::Near(i, _) => i,
+        Nearest::NoThread => 255,
     }
 }
 
@@ -50,7 +50,7 @@ fn jef(case: &[u8]) -> bool {
     let mut i = 0;
     while i < n {
         let t = color(case, 2 + 3 * i);
-        let k = jef_threads::jef_choice(last, t);
+        let k = jef_threads::entry_of(jef_threads::jef_choice(last, t));
         if k != byte(case, 2 + 3 * n + i) as usize {
             return false;
         }

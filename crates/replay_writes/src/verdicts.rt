@@ -46,7 +46,7 @@ fn writes_same(case: &[u8], n: usize, xs: &[i32], ys: &[i32], kinds: &[u8], out:
     requires { ⌜ n ≤ length (now out) ⌝ }
 {
     let answer = write(case, xs, ys, kinds, out);
-    let WriteAnswer::Written(len) = answer else {
+    let WriteAnswer::Written(len, _) = answer else {
         return false;
     };
     if len != n {

@@ -1,10 +1,10 @@
 -- The choice of a chart's entry for a thread.
 -- A port of src/formats/mod.rs and src/formats/more.rs of zigzag, changed.
-use Prim.Native.Nat.{ℕ, _+_, _-_, _*_, _/_, _%_}
+use Prim.Native.Nat.{ℕ, _+_, _-_, _*_, _/_, _%_, max}
 use mathlib.Core.Bool.{Bool, true, false, _&&_, not}
 use mathlib.Core.List.{List, [], _∷_, map}
 use lib.Dec.{leb, eqb}
-use lib.ListN.{set}
+use lib.ListN.{getD, set}
 use Rattle.rules.specs.Vocabulary.{pick, all, firstWhere, lastWhere}
 use Rattle.rules.specs.Charts.{pecChart, jefChart}
 use Rattle.rules.specs.declared.Color.{Color}
@@ -12,6 +12,10 @@ use Rattle.rules.specs.declared.Slot.{Slot}
 use Rattle.rules.specs.declared.Slot.the-variants.{Empty, Thread}
 use Rattle.rules.specs.declared.Found.{Found}
 use Rattle.rules.specs.declared.Found.the-variants.{At, Missing}
+use Rattle.rules.specs.declared.Nearest.{Nearest}
+use Rattle.rules.specs.declared.Nearest.the-variants.{Near, NoThread}
+use Rattle.rules.specs.declared.JefNearest.{JefNearest}
+use Rattle.rules.specs.declared.JefNearest.the-variants.{Near as JefNear, NoThread as JefNoThread}
 use Rattle.rules.specs.declared.Previous.{Previous}
 use Rattle.rules.specs.declared.Previous.the-variants.{First, Entry}
 
@@ -47,6 +51,22 @@ nearestIndex c palette = lastWhere (nearest c palette) palette
 unfoldable pub nearestFirst : Color → List Slot → Found
 nearestFirst c palette = firstWhere (nearest c palette) palette
 
+-- how far c is from the thread of an entry; 0 where it has none
+unfoldable pub away : Color → Slot → ℕ
+away c Empty = 0
+away c (Thread t) = distance c t
+
+-- The choice of the nearest thread answers the index and its distance: `near` of both, or `none`.
+unfoldable pub withDistance : {A : Type 0} → (ℕ → ℕ → A) → A → Color → List Slot → Found → A
+withDistance near none c palette (At i) = near i (away c (getD palette i Empty))
+withDistance near none c palette Missing = none
+
+unfoldable pub nearestAnswer : Color → List Slot → Nearest
+nearestAnswer c palette = withDistance Near NoThread c palette (nearestIndex c palette)
+
+unfoldable pub nearestFirstAnswer : Color → List Slot → JefNearest
+nearestFirstAnswer c palette = withDistance JefNear JefNoThread c palette (nearestFirst c palette)
+
 -- the entries of a chart that may be chosen: all but entry 0
 unfoldable pub choices : List Color → List Slot
 choices [] = []
@@ -75,7 +95,18 @@ unfoldable pub jefChoice : Previous → Color → ℕ
 jefChoice First t = jefNearest t 0
 jefChoice (Entry i u) t = pick (eqb (jefNearest t 0) i && not (sameColor u t)) (jefNearest t i) (jefNearest t 0)
 
+-- JEF's choice answers the entry and its distance.
+unfoldable pub jefChoiceAnswer : Previous → Color → JefNearest
+jefChoiceAnswer last t = JefNear (jefChoice last t) (away t (getD jefPalette (jefChoice last t) Empty))
+
 -- JEF's thread table for the threads that follow
 unfoldable pub jefEntries : Previous → List Color → List ℕ
 jefEntries last [] = []
 jefEntries last (t ∷ ts) = jefChoice last t ∷ jefEntries (Entry (jefChoice last t) t) ts
+
+-- The largest distance between a thread and the chart's own colour of the entry written for it. `palette` has the chart's own colours, and
+-- none for entry 0, which is never chosen. A thread without an entry does not count; the answer is 0 if none counts.
+unfoldable pub farthest : List Slot → List Color → List ℕ → ℕ
+farthest palette [] entries = 0
+farthest palette (t ∷ ts) [] = 0
+farthest palette (t ∷ ts) (e ∷ es) = max (away t (getD palette e Empty)) (farthest palette ts es)

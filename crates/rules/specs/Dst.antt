@@ -229,6 +229,7 @@ dstLayout = record {
   extension = 0x64 ∷ 0x73 ∷ 0x74 ∷ [];
   file = λ name cs threads. dstFile name cs;
   bound = λ n t. dstHeader + 9 * n;
+  distance = λ threads. 0;
   least = negℤ (pos 121);
   greatest = pos 121;
   refusals = λ s. (FileTooShort, ltb (length s) dstHeader) ∷ [];

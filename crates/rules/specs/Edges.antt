@@ -13,7 +13,7 @@ use Rattle.rules.specs.Lists.{minZ, maxZ, leastFrom, greatestFrom, least
 use Rattle.rules.specs.Lists.{pecName, dstName}
 use Rattle.rules.specs.Charts.{pecChart, jefChart, blankIcon}
 use Rattle.rules.specs.Choices.{halfToEven, gap, weighed, distance, noNearer, nearest, nearestIndex, nearestFirst, choices}
-use Rattle.rules.specs.Choices.{pecPalette, jefPalette, sameColor, entryOf, jefNearest, jefChoice, jefEntries}
+use Rattle.rules.specs.Choices.{pecPalette, jefPalette, sameColor, entryOf, jefNearest, jefChoice, jefEntries, away, farthest}
 use Rattle.rules.specs.Records.{recordThen, events}
 use Rattle.rules.specs.Text.{wordAt, blank, trimStart, beforeEnd, trimEnd, trimmed, cutBefore, linesOf, begins}
 use Rattle.rules.specs.Layout.{shadeAt, fromChart}
@@ -23,24 +23,25 @@ use Rattle.rules.specs.Dst.{dstCmd, line, signedRight, recordCount, dstT
 use Rattle.rules.specs.Thumbnails.{atLeastOne, lesser, floorOf, within, pixel, painted, marked, drawn, atFront, colorBlocks, icons}
 use Rattle.rules.specs.Pec.{longAxis, axisOf, afterAxis, bothAxes, starts, pecChange, pecFirst, pecEvents, pecLabel, pecEntry, pecStored}
 use Rattle.rules.specs.Pec.{noCount, wide, pecValue, pecStart, pecNext, pause, pecCmd, pecStitches, distinct, give, givenTo, foundOr}
-use Rattle.rules.specs.Pec.{uniquePalette, pecColors, pecHeader, pecBlock, pecPart, pecFile}
+use Rattle.rules.specs.Pec.{uniquePalette, pecDistance, pecColors, pecHeader, pecBlock, pecPart, pecFile}
 use Rattle.rules.specs.Pes.{halves, matrixField, threadCode, runLength, runX, runY, pesStart, opens, pesNext, pesPoint, pesOpen}
 use Rattle.rules.specs.Pes.{pesCmd, pesSections, sectionCount, opensSection, colorLog, pesString, shorts, pesBlocks, pesMiddle}
 use Rattle.rules.specs.Pes.{pesFile, partAt}
 use Rattle.rules.specs.Exp.{two, control, after80, pairFirst, pairOf, expCmd, expFile}
 use Rattle.rules.specs.Jef.{jefRecords, jefCount, jefEntry, jefStored, jefCmd, word, pointsIn, pointCount, jefHoop, halfUp, edges as hoopEdges}
-use Rattle.rules.specs.Jef.{orOne, jefTable, words, jefHeader, jefFile}
+use Rattle.rules.specs.Jef.{orOne, jefTable, jefDistance, words, jefHeader, jefFile}
 use Rattle.rules.specs.Refusals.{numberOf, lower, named, namedIn, extensionOf, badList, outside, placeOutside, changes, tooMany}
 use Rattle.rules.specs.Refusals.{moves, moved, leastStep, greatestStep, stepIn, stepsPast, stepTooLong, verdict, listRefusals}
 use Rattle.rules.specs.Answers.{pointsAfter, startOf, places, runOf, runs, blockOf, begunAfter, blocks, pointTotal, blockTotal, cuts}
-use Rattle.rules.specs.Files.{fileOf, eventsOf, labelOf, stored, defaults, colorNumber, orDefault, colourOf, placesOf, runsOf}
+use Rattle.rules.specs.Files.{fileOf, distanceOf, eventsOf, labelOf, stored, defaults, colorNumber, orDefault, colourOf, placesOf, runsOf}
 use Rattle.rules.specs.Files.{blocksOf, cutsOf, fileRefusals, noRoom, fileVerdict, readVerdict, placesTold, runsTold, blocksTold}
 use Rattle.rules.specs.Files.{cutsTold, countsOf, readAnswer, readNumber, readCounts, filled, fileTold, writeVerdict, writeAnswer}
-use Rattle.rules.specs.Files.{writeNumber, writeLength, labelUnder, labelTold}
+use Rattle.rules.specs.Files.{distanceTold, writeNumber, writeLength, writeDistance, labelUnder, labelTold}
 use Rattle.rules.specs.declared.Extension.{Extension}
 use Rattle.rules.specs.declared.Format.{Format}
 use Rattle.rules.specs.declared.Format.the-variants.{Pes, Pec, Dst, Exp, Jef}
 use Rattle.rules.specs.declared.ReadAnswer.{ReadAnswer}
+use Rattle.rules.specs.declared.Verdict.{Verdict}
 use Rattle.rules.specs.declared.WriteAnswer.{WriteAnswer}
 
 -- what is asked, and last the answer
@@ -55,7 +56,7 @@ pub data Row : Type 0 where
   leaves : List ℕ → List ℕ → List ℕ → List ℕ → Row
   -- a name, the steps of a list on each axis, its kinds and threads, a place in the file and a count of bytes; those bytes
   writes : Format → List ℕ → List ℤ → List ℤ → List ℕ → List ℕ → ℕ → ℕ → List ℕ → Row
-  -- an extension, steps, kinds, threads, the length of the buffer; the number and the length
+  -- an extension, steps, kinds, threads, the length of the buffer; the number, the length and the distance
   toldByWrite : List ℕ → List ℤ → List ℤ → List ℕ → List ℕ → ℕ → List ℕ → Row
 
 -- the answer of a row: three lists, or one
@@ -73,7 +74,7 @@ abbrev readTold : ReadAnswer → List ℕ
 readTold a = readNumber a ∷ readCounts a .points ∷ readCounts a .runs ∷ readCounts a .blocks ∷ readCounts a .cuts ∷ []
 
 abbrev writeTold : WriteAnswer → List ℕ
-writeTold a = writeNumber a ∷ writeLength a ∷ []
+writeTold a = writeNumber a ∷ writeLength a ∷ writeDistance a ∷ []
 
 -- what the definitions answer
 abbrev pub found : Row → Answer
@@ -90,7 +91,8 @@ found (toldByWrite ext dxs dys kinds threads n answer) =
     let e : Extension = extensionOf ext in
     let xs : List ℤ = sums (pos 0) dxs in
     let ys : List ℤ = sums (pos 0) dys in
-    cells (writeTold (writeAnswer (writeVerdict e [] xs ys kinds threads n) (length (fileTold e [] (commands xs ys kinds) threads))))
+    let v : Verdict = writeVerdict e [] xs ys kinds threads n in
+    cells (writeTold (writeAnswer (distanceTold e threads) v (length (fileTold e [] (commands xs ys kinds) threads))))
 
 -- what the row says
 abbrev pub told : Row → Answer
@@ -810,138 +812,177 @@ edges =
     ∷ [])
     -- ---- what a write tells, refusals of lists
     -- writing pe: no such extension comes before 6
-    ∷ (toldByWrite (0x70 ∷ 0x65 ∷ []) [] [] [] [] 4000 (1 ∷ 0 ∷ [])
+    ∷ (toldByWrite (0x70 ∷ 0x65 ∷ []) [] [] [] [] 4000 (1 ∷ 0 ∷ 0 ∷ [])
     -- writing exp: 6: no commands
-    ∷ toldByWrite (0x65 ∷ 0x78 ∷ 0x70 ∷ []) [] [] [] [] 4000 (6 ∷ 0 ∷ [])
+    ∷ toldByWrite (0x65 ∷ 0x78 ∷ 0x70 ∷ []) [] [] [] [] 4000 (6 ∷ 0 ∷ 0 ∷ [])
     -- writing exp: 6: 65,536 commands
     ∷ toldByWrite (0x65 ∷ 0x78 ∷ 0x70 ∷ []) (replicate 65536 (pos 0) ++ []) (replicate 65536 (pos 0) ++ []) (replicate 65535 1 ++ 4 ∷ [])
-    [] 4000 (6 ∷ 0 ∷ [])
+    [] 4000 (6 ∷ 0 ∷ 0 ∷ [])
     -- writing exp: 7: 65,535 commands, of which the first is outside
     ∷ toldByWrite (0x65 ∷ 0x78 ∷ 0x70 ∷ []) (replicate 65535 (pos 0) ++ []) (pos 16001 ∷ replicate 65534 (pos 0) ++ []) (replicate 65534 1
-    ++ 4 ∷ []) [] 4000 (7 ∷ 0 ∷ [])
+    ++ 4 ∷ []) [] 4000 (7 ∷ 0 ∷ 0 ∷ [])
     -- writing exp: 6: kind 5, before a place outside
-    ∷ toldByWrite (0x65 ∷ 0x78 ∷ 0x70 ∷ []) (pos 16001 ∷ pos 0 ∷ []) (pos 0 ∷ pos 0 ∷ []) (5 ∷ 4 ∷ []) (0x01 ∷ []) 4000 (6 ∷ 0 ∷ [])
+    ∷ toldByWrite (0x65 ∷ 0x78 ∷ 0x70 ∷ []) (pos 16001 ∷ pos 0 ∷ []) (pos 0 ∷ pos 0 ∷ []) (5 ∷ 4 ∷ []) (0x01 ∷ []) 4000 (6 ∷ 0 ∷ 0 ∷ [])
     -- writing exp: 6: the end missing
-    ∷ toldByWrite (0x65 ∷ 0x78 ∷ 0x70 ∷ []) (pos 0 ∷ []) (pos 0 ∷ []) (0 ∷ []) [] 4000 (6 ∷ 0 ∷ [])
+    ∷ toldByWrite (0x65 ∷ 0x78 ∷ 0x70 ∷ []) (pos 0 ∷ []) (pos 0 ∷ []) (0 ∷ []) [] 4000 (6 ∷ 0 ∷ 0 ∷ [])
     -- writing exp: 6: the end early
-    ∷ toldByWrite (0x65 ∷ 0x78 ∷ 0x70 ∷ []) (pos 0 ∷ pos 0 ∷ []) (pos 0 ∷ pos 0 ∷ []) (4 ∷ 0 ∷ []) [] 4000 (6 ∷ 0 ∷ [])
+    ∷ toldByWrite (0x65 ∷ 0x78 ∷ 0x70 ∷ []) (pos 0 ∷ pos 0 ∷ []) (pos 0 ∷ pos 0 ∷ []) (4 ∷ 0 ∷ []) [] 4000 (6 ∷ 0 ∷ 0 ∷ [])
     -- writing exp: 6: the end repeated
-    ∷ toldByWrite (0x65 ∷ 0x78 ∷ 0x70 ∷ []) (pos 0 ∷ pos 0 ∷ []) (pos 0 ∷ pos 0 ∷ []) (4 ∷ 4 ∷ []) [] 4000 (6 ∷ 0 ∷ [])
+    ∷ toldByWrite (0x65 ∷ 0x78 ∷ 0x70 ∷ []) (pos 0 ∷ pos 0 ∷ []) (pos 0 ∷ pos 0 ∷ []) (4 ∷ 4 ∷ []) [] 4000 (6 ∷ 0 ∷ 0 ∷ [])
     -- writing exp: 6: one x too few
-    ∷ toldByWrite (0x65 ∷ 0x78 ∷ 0x70 ∷ []) (pos 0 ∷ []) (pos 0 ∷ pos 0 ∷ []) (0 ∷ 4 ∷ []) [] 4000 (6 ∷ 0 ∷ [])
+    ∷ toldByWrite (0x65 ∷ 0x78 ∷ 0x70 ∷ []) (pos 0 ∷ []) (pos 0 ∷ pos 0 ∷ []) (0 ∷ 4 ∷ []) [] 4000 (6 ∷ 0 ∷ 0 ∷ [])
     -- writing exp: 6: one y too few
-    ∷ toldByWrite (0x65 ∷ 0x78 ∷ 0x70 ∷ []) (pos 0 ∷ pos 0 ∷ []) (pos 0 ∷ []) (0 ∷ 4 ∷ []) [] 4000 (6 ∷ 0 ∷ [])
+    ∷ toldByWrite (0x65 ∷ 0x78 ∷ 0x70 ∷ []) (pos 0 ∷ pos 0 ∷ []) (pos 0 ∷ []) (0 ∷ 4 ∷ []) [] 4000 (6 ∷ 0 ∷ 0 ∷ [])
     -- writing exp: 6: one kind too few
-    ∷ toldByWrite (0x65 ∷ 0x78 ∷ 0x70 ∷ []) (pos 0 ∷ pos 0 ∷ []) (pos 0 ∷ pos 0 ∷ []) (0 ∷ []) [] 4000 (6 ∷ 0 ∷ [])
+    ∷ toldByWrite (0x65 ∷ 0x78 ∷ 0x70 ∷ []) (pos 0 ∷ pos 0 ∷ []) (pos 0 ∷ pos 0 ∷ []) (0 ∷ []) [] 4000 (6 ∷ 0 ∷ 0 ∷ [])
     -- writing exp: 7, before 8: a place at 16,001
-    ∷ toldByWrite (0x65 ∷ 0x78 ∷ 0x70 ∷ []) (pos 16001 ∷ pos 0 ∷ []) (pos 0 ∷ pos 0 ∷ []) (1 ∷ 4 ∷ []) (0x01 ∷ []) 4000 (7 ∷ 0 ∷ [])
+    ∷ toldByWrite (0x65 ∷ 0x78 ∷ 0x70 ∷ []) (pos 16001 ∷ pos 0 ∷ []) (pos 0 ∷ pos 0 ∷ []) (1 ∷ 4 ∷ []) (0x01 ∷ []) 4000 (7 ∷ 0 ∷ 0 ∷ [])
     -- writing exp: 7: a place at -16,001
-    ∷ toldByWrite (0x65 ∷ 0x78 ∷ 0x70 ∷ []) (pos 0 ∷ pos 0 ∷ []) (negsuc 16000 ∷ pos 0 ∷ []) (1 ∷ 4 ∷ []) [] 4000 (7 ∷ 0 ∷ [])
+    ∷ toldByWrite (0x65 ∷ 0x78 ∷ 0x70 ∷ []) (pos 0 ∷ pos 0 ∷ []) (negsuc 16000 ∷ pos 0 ∷ []) (1 ∷ 4 ∷ []) [] 4000 (7 ∷ 0 ∷ 0 ∷ [])
     -- writing exp: 8, before 9: 256 threads
-    ∷ toldByWrite (0x65 ∷ 0x78 ∷ 0x70 ∷ []) (pos 1 ∷ []) (pos 0 ∷ []) (4 ∷ []) (replicate 768 0x09 ++ []) 4000 (8 ∷ 0 ∷ [])
+    ∷ toldByWrite (0x65 ∷ 0x78 ∷ 0x70 ∷ []) (pos 1 ∷ []) (pos 0 ∷ []) (4 ∷ []) (replicate 768 0x09 ++ []) 4000 (8 ∷ 0 ∷ 0 ∷ [])
     -- writing exp: 255 threads
-    ∷ toldByWrite (0x65 ∷ 0x78 ∷ 0x70 ∷ []) (pos 0 ∷ []) (pos 0 ∷ []) (4 ∷ []) (replicate 765 0x09 ++ []) 4000 (0 ∷ 0 ∷ [])
+    ∷ toldByWrite (0x65 ∷ 0x78 ∷ 0x70 ∷ []) (pos 0 ∷ []) (pos 0 ∷ []) (4 ∷ []) (replicate 765 0x09 ++ []) 4000 (0 ∷ 0 ∷ 0 ∷ [])
     -- writing exp: 8: one byte of a thread
-    ∷ toldByWrite (0x65 ∷ 0x78 ∷ 0x70 ∷ []) (pos 0 ∷ []) (pos 0 ∷ []) (4 ∷ []) (0x09 ∷ []) 4000 (8 ∷ 0 ∷ [])
+    ∷ toldByWrite (0x65 ∷ 0x78 ∷ 0x70 ∷ []) (pos 0 ∷ []) (pos 0 ∷ []) (4 ∷ []) (0x09 ∷ []) 4000 (8 ∷ 0 ∷ 0 ∷ [])
     -- writing exp: 8: two bytes of a thread
-    ∷ toldByWrite (0x65 ∷ 0x78 ∷ 0x70 ∷ []) (pos 0 ∷ []) (pos 0 ∷ []) (4 ∷ []) (0x09 ∷ 0x09 ∷ 0x09 ∷ 0x09 ∷ 0x09 ∷ []) 4000 (8 ∷ 0 ∷ [])
+    ∷ toldByWrite (0x65 ∷ 0x78 ∷ 0x70 ∷ []) (pos 0 ∷ []) (pos 0 ∷ []) (4 ∷ []) (0x09 ∷ 0x09 ∷ 0x09 ∷ 0x09 ∷ 0x09 ∷ []) 4000 (8 ∷ 0 ∷ 0 ∷ [])
     -- writing exp: 254 colour changes
     ∷ toldByWrite (0x65 ∷ 0x78 ∷ 0x70 ∷ []) (replicate 255 (pos 0) ++ []) (replicate 255 (pos 0) ++ []) (replicate 254 3 ++ 4 ∷ []) [] 4000
-    (0 ∷ 1016 ∷ [])
+    (0 ∷ 1016 ∷ 0 ∷ [])
     -- writing exp: 8: 255 colour changes
     ∷ toldByWrite (0x65 ∷ 0x78 ∷ 0x70 ∷ []) (replicate 256 (pos 0) ++ []) (replicate 256 (pos 0) ++ []) (replicate 255 3 ++ 4 ∷ []) [] 4000
-    (8 ∷ 0 ∷ [])
+    (8 ∷ 0 ∷ 0 ∷ [])
     -- writing exp: 9: an end that moves
-    ∷ toldByWrite (0x65 ∷ 0x78 ∷ 0x70 ∷ []) (pos 1 ∷ []) (pos 0 ∷ []) (4 ∷ []) [] 4000 (9 ∷ 0 ∷ [])
+    ∷ toldByWrite (0x65 ∷ 0x78 ∷ 0x70 ∷ []) (pos 1 ∷ []) (pos 0 ∷ []) (4 ∷ []) [] 4000 (9 ∷ 0 ∷ 0 ∷ [])
     -- writing exp: 9, before 10: a trim that moves
-    ∷ toldByWrite (0x65 ∷ 0x78 ∷ 0x70 ∷ []) (pos 0 ∷ pos 0 ∷ []) (negsuc 999 ∷ pos 0 ∷ []) (2 ∷ 4 ∷ []) [] 4000 (9 ∷ 0 ∷ [])
+    ∷ toldByWrite (0x65 ∷ 0x78 ∷ 0x70 ∷ []) (pos 0 ∷ pos 0 ∷ []) (negsuc 999 ∷ pos 0 ∷ []) (2 ∷ 4 ∷ []) [] 4000 (9 ∷ 0 ∷ 0 ∷ [])
     -- writing exp: 9: a colour change that moves
-    ∷ toldByWrite (0x65 ∷ 0x78 ∷ 0x70 ∷ []) (pos 1 ∷ pos 0 ∷ pos 0 ∷ []) (pos 1 ∷ pos 1 ∷ pos 0 ∷ []) (0 ∷ 3 ∷ 4 ∷ []) [] 4000 (9 ∷ 0 ∷ [])
+    ∷ toldByWrite (0x65 ∷ 0x78 ∷ 0x70 ∷ []) (pos 1 ∷ pos 0 ∷ pos 0 ∷ []) (pos 1 ∷ pos 1 ∷ pos 0 ∷ []) (0 ∷ 3 ∷ 4 ∷ []) [] 4000 (9 ∷ 0 ∷ 0 ∷ [])
     -- writing exp: 10, before 11: EXP step 128
-    ∷ toldByWrite (0x65 ∷ 0x78 ∷ 0x70 ∷ []) (pos 128 ∷ pos 0 ∷ []) (pos 0 ∷ pos 0 ∷ []) (1 ∷ 4 ∷ []) [] 0 (10 ∷ 0 ∷ [])
+    ∷ toldByWrite (0x65 ∷ 0x78 ∷ 0x70 ∷ []) (pos 128 ∷ pos 0 ∷ []) (pos 0 ∷ pos 0 ∷ []) (1 ∷ 4 ∷ []) [] 0 (10 ∷ 0 ∷ 0 ∷ [])
     -- writing pec: x at 16,000
     ∷ toldByWrite (0x70 ∷ 0x65 ∷ 0x63 ∷ []) (replicate 8 (pos 2000) ++ pos 0 ∷ pos 0 ∷ []) (replicate 10 (pos 0) ++ []) (replicate 8 1 ++ 0
-    ∷ 4 ∷ []) [] 4000 (0 ∷ 1027 ∷ [])
+    ∷ 4 ∷ []) [] 4000 (0 ∷ 1027 ∷ 0 ∷ [])
     -- writing pec: 7: x one past 16,000
     ∷ toldByWrite (0x70 ∷ 0x65 ∷ 0x63 ∷ []) (replicate 8 (pos 2000) ++ pos 1 ∷ pos 0 ∷ []) (replicate 10 (pos 0) ++ []) (replicate 8 1 ++ 0
-    ∷ 4 ∷ []) [] 4000 (7 ∷ 0 ∷ [])
+    ∷ 4 ∷ []) [] 4000 (7 ∷ 0 ∷ 0 ∷ [])
     -- writing pec: x at -16,000
     ∷ toldByWrite (0x70 ∷ 0x65 ∷ 0x63 ∷ []) (replicate 8 (negsuc 1999) ++ pos 0 ∷ pos 0 ∷ []) (replicate 10 (pos 0) ++ []) (replicate 8 1
-    ++ 0 ∷ 4 ∷ []) [] 4000 (0 ∷ 1027 ∷ [])
+    ++ 0 ∷ 4 ∷ []) [] 4000 (0 ∷ 1027 ∷ 0 ∷ [])
     -- writing pec: 7: x one past -16,000
     ∷ toldByWrite (0x70 ∷ 0x65 ∷ 0x63 ∷ []) (replicate 8 (negsuc 1999) ++ negsuc 0 ∷ pos 0 ∷ []) (replicate 10 (pos 0) ++ [])
-    (replicate 8 1 ++ 0 ∷ 4 ∷ []) [] 4000 (7 ∷ 0 ∷ [])
+    (replicate 8 1 ++ 0 ∷ 4 ∷ []) [] 4000 (7 ∷ 0 ∷ 0 ∷ [])
     -- writing pec: y at 16,000
     ∷ toldByWrite (0x70 ∷ 0x65 ∷ 0x63 ∷ []) (replicate 10 (pos 0) ++ []) (replicate 8 (pos 2000) ++ pos 0 ∷ pos 0 ∷ []) (replicate 8 1 ++ 0
-    ∷ 4 ∷ []) [] 4000 (0 ∷ 1027 ∷ [])
+    ∷ 4 ∷ []) [] 4000 (0 ∷ 1027 ∷ 0 ∷ [])
     -- writing pec: 7: y one past 16,000
     ∷ toldByWrite (0x70 ∷ 0x65 ∷ 0x63 ∷ []) (replicate 10 (pos 0) ++ []) (replicate 8 (pos 2000) ++ pos 1 ∷ pos 0 ∷ []) (replicate 8 1 ++ 0
-    ∷ 4 ∷ []) [] 4000 (7 ∷ 0 ∷ [])
+    ∷ 4 ∷ []) [] 4000 (7 ∷ 0 ∷ 0 ∷ [])
     -- writing pec: y at -16,000
     ∷ toldByWrite (0x70 ∷ 0x65 ∷ 0x63 ∷ []) (replicate 10 (pos 0) ++ []) (replicate 8 (negsuc 1999) ++ pos 0 ∷ pos 0 ∷ []) (replicate 8 1
-    ++ 0 ∷ 4 ∷ []) [] 4000 (0 ∷ 1027 ∷ [])
+    ++ 0 ∷ 4 ∷ []) [] 4000 (0 ∷ 1027 ∷ 0 ∷ [])
     -- writing pec: 7: y one past -16,000
     ∷ toldByWrite (0x70 ∷ 0x65 ∷ 0x63 ∷ []) (replicate 10 (pos 0) ++ []) (replicate 8 (negsuc 1999) ++ negsuc 0 ∷ pos 0 ∷ [])
-    (replicate 8 1 ++ 0 ∷ 4 ∷ []) [] 4000 (7 ∷ 0 ∷ [])
+    (replicate 8 1 ++ 0 ∷ 4 ∷ []) [] 4000 (7 ∷ 0 ∷ 0 ∷ [])
     -- writing pes: steps at both limits
     ∷ toldByWrite (0x70 ∷ 0x65 ∷ 0x73 ∷ []) (negsuc 2047 ∷ pos 2047 ∷ pos 0 ∷ []) (pos 2047 ∷ negsuc 2047 ∷ pos 0 ∷ []) (1 ∷ 0 ∷ 4 ∷ []) []
-    4000 (0 ∷ 1135 ∷ [])
+    4000 (0 ∷ 1135 ∷ 0 ∷ [])
     -- writing pes: 10: a step too great on x
-    ∷ toldByWrite (0x70 ∷ 0x65 ∷ 0x73 ∷ []) (pos 2048 ∷ pos 0 ∷ []) (pos 0 ∷ pos 0 ∷ []) (1 ∷ 4 ∷ []) [] 0 (10 ∷ 0 ∷ [])
+    ∷ toldByWrite (0x70 ∷ 0x65 ∷ 0x73 ∷ []) (pos 2048 ∷ pos 0 ∷ []) (pos 0 ∷ pos 0 ∷ []) (1 ∷ 4 ∷ []) [] 0 (10 ∷ 0 ∷ 0 ∷ [])
     -- writing pes: 10: a step too great on y
-    ∷ toldByWrite (0x70 ∷ 0x65 ∷ 0x73 ∷ []) (pos 0 ∷ pos 0 ∷ []) (pos 2048 ∷ pos 0 ∷ []) (1 ∷ 4 ∷ []) [] 0 (10 ∷ 0 ∷ [])
+    ∷ toldByWrite (0x70 ∷ 0x65 ∷ 0x73 ∷ []) (pos 0 ∷ pos 0 ∷ []) (pos 2048 ∷ pos 0 ∷ []) (1 ∷ 4 ∷ []) [] 0 (10 ∷ 0 ∷ 0 ∷ [])
     -- writing pes: 10: a step too small on x
-    ∷ toldByWrite (0x70 ∷ 0x65 ∷ 0x73 ∷ []) (negsuc 2048 ∷ pos 0 ∷ []) (pos 0 ∷ pos 0 ∷ []) (1 ∷ 4 ∷ []) [] 0 (10 ∷ 0 ∷ [])
+    ∷ toldByWrite (0x70 ∷ 0x65 ∷ 0x73 ∷ []) (negsuc 2048 ∷ pos 0 ∷ []) (pos 0 ∷ pos 0 ∷ []) (1 ∷ 4 ∷ []) [] 0 (10 ∷ 0 ∷ 0 ∷ [])
     -- writing pes: 10: a step too small on y
-    ∷ toldByWrite (0x70 ∷ 0x65 ∷ 0x73 ∷ []) (pos 0 ∷ pos 0 ∷ []) (negsuc 2048 ∷ pos 0 ∷ []) (1 ∷ 4 ∷ []) [] 0 (10 ∷ 0 ∷ [])
+    ∷ toldByWrite (0x70 ∷ 0x65 ∷ 0x73 ∷ []) (pos 0 ∷ pos 0 ∷ []) (negsuc 2048 ∷ pos 0 ∷ []) (1 ∷ 4 ∷ []) [] 0 (10 ∷ 0 ∷ 0 ∷ [])
     -- writing pec: steps at both limits
     ∷ toldByWrite (0x70 ∷ 0x65 ∷ 0x63 ∷ []) (negsuc 2047 ∷ pos 2047 ∷ pos 0 ∷ []) (pos 2047 ∷ negsuc 2047 ∷ pos 0 ∷ []) (1 ∷ 0 ∷ 4 ∷ []) []
-    4000 (0 ∷ 1003 ∷ [])
+    4000 (0 ∷ 1003 ∷ 0 ∷ [])
     -- writing pec: 10: a step too great on x
-    ∷ toldByWrite (0x70 ∷ 0x65 ∷ 0x63 ∷ []) (pos 2048 ∷ pos 0 ∷ []) (pos 0 ∷ pos 0 ∷ []) (1 ∷ 4 ∷ []) [] 0 (10 ∷ 0 ∷ [])
+    ∷ toldByWrite (0x70 ∷ 0x65 ∷ 0x63 ∷ []) (pos 2048 ∷ pos 0 ∷ []) (pos 0 ∷ pos 0 ∷ []) (1 ∷ 4 ∷ []) [] 0 (10 ∷ 0 ∷ 0 ∷ [])
     -- writing pec: 10: a step too great on y
-    ∷ toldByWrite (0x70 ∷ 0x65 ∷ 0x63 ∷ []) (pos 0 ∷ pos 0 ∷ []) (pos 2048 ∷ pos 0 ∷ []) (1 ∷ 4 ∷ []) [] 0 (10 ∷ 0 ∷ [])
+    ∷ toldByWrite (0x70 ∷ 0x65 ∷ 0x63 ∷ []) (pos 0 ∷ pos 0 ∷ []) (pos 2048 ∷ pos 0 ∷ []) (1 ∷ 4 ∷ []) [] 0 (10 ∷ 0 ∷ 0 ∷ [])
     -- writing pec: 10: a step too small on x
-    ∷ toldByWrite (0x70 ∷ 0x65 ∷ 0x63 ∷ []) (negsuc 2048 ∷ pos 0 ∷ []) (pos 0 ∷ pos 0 ∷ []) (1 ∷ 4 ∷ []) [] 0 (10 ∷ 0 ∷ [])
+    ∷ toldByWrite (0x70 ∷ 0x65 ∷ 0x63 ∷ []) (negsuc 2048 ∷ pos 0 ∷ []) (pos 0 ∷ pos 0 ∷ []) (1 ∷ 4 ∷ []) [] 0 (10 ∷ 0 ∷ 0 ∷ [])
     -- writing pec: 10: a step too small on y
-    ∷ toldByWrite (0x70 ∷ 0x65 ∷ 0x63 ∷ []) (pos 0 ∷ pos 0 ∷ []) (negsuc 2048 ∷ pos 0 ∷ []) (1 ∷ 4 ∷ []) [] 0 (10 ∷ 0 ∷ [])
+    ∷ toldByWrite (0x70 ∷ 0x65 ∷ 0x63 ∷ []) (pos 0 ∷ pos 0 ∷ []) (negsuc 2048 ∷ pos 0 ∷ []) (1 ∷ 4 ∷ []) [] 0 (10 ∷ 0 ∷ 0 ∷ [])
     -- writing dst: steps at both limits
     ∷ toldByWrite (0x64 ∷ 0x73 ∷ 0x74 ∷ []) (negsuc 120 ∷ pos 121 ∷ pos 0 ∷ []) (pos 121 ∷ negsuc 120 ∷ pos 0 ∷ []) (1 ∷ 0 ∷ 4 ∷ []) []
-    4000 (0 ∷ 521 ∷ [])
+    4000 (0 ∷ 521 ∷ 0 ∷ [])
     -- writing dst: 10: a step too great on x
-    ∷ toldByWrite (0x64 ∷ 0x73 ∷ 0x74 ∷ []) (pos 122 ∷ pos 0 ∷ []) (pos 0 ∷ pos 0 ∷ []) (1 ∷ 4 ∷ []) [] 0 (10 ∷ 0 ∷ [])
+    ∷ toldByWrite (0x64 ∷ 0x73 ∷ 0x74 ∷ []) (pos 122 ∷ pos 0 ∷ []) (pos 0 ∷ pos 0 ∷ []) (1 ∷ 4 ∷ []) [] 0 (10 ∷ 0 ∷ 0 ∷ [])
     -- writing dst: 10: a step too great on y
-    ∷ toldByWrite (0x64 ∷ 0x73 ∷ 0x74 ∷ []) (pos 0 ∷ pos 0 ∷ []) (pos 122 ∷ pos 0 ∷ []) (1 ∷ 4 ∷ []) [] 0 (10 ∷ 0 ∷ [])
+    ∷ toldByWrite (0x64 ∷ 0x73 ∷ 0x74 ∷ []) (pos 0 ∷ pos 0 ∷ []) (pos 122 ∷ pos 0 ∷ []) (1 ∷ 4 ∷ []) [] 0 (10 ∷ 0 ∷ 0 ∷ [])
     -- writing dst: 10: a step too small on x
-    ∷ toldByWrite (0x64 ∷ 0x73 ∷ 0x74 ∷ []) (negsuc 121 ∷ pos 0 ∷ []) (pos 0 ∷ pos 0 ∷ []) (1 ∷ 4 ∷ []) [] 0 (10 ∷ 0 ∷ [])
+    ∷ toldByWrite (0x64 ∷ 0x73 ∷ 0x74 ∷ []) (negsuc 121 ∷ pos 0 ∷ []) (pos 0 ∷ pos 0 ∷ []) (1 ∷ 4 ∷ []) [] 0 (10 ∷ 0 ∷ 0 ∷ [])
     -- writing dst: 10: a step too small on y
-    ∷ toldByWrite (0x64 ∷ 0x73 ∷ 0x74 ∷ []) (pos 0 ∷ pos 0 ∷ []) (negsuc 121 ∷ pos 0 ∷ []) (1 ∷ 4 ∷ []) [] 0 (10 ∷ 0 ∷ [])
+    ∷ toldByWrite (0x64 ∷ 0x73 ∷ 0x74 ∷ []) (pos 0 ∷ pos 0 ∷ []) (negsuc 121 ∷ pos 0 ∷ []) (1 ∷ 4 ∷ []) [] 0 (10 ∷ 0 ∷ 0 ∷ [])
     -- writing exp: steps at both limits
     ∷ toldByWrite (0x65 ∷ 0x78 ∷ 0x70 ∷ []) (negsuc 126 ∷ pos 127 ∷ pos 0 ∷ []) (pos 127 ∷ negsuc 126 ∷ pos 0 ∷ []) (1 ∷ 0 ∷ 4 ∷ []) []
-    4000 (0 ∷ 6 ∷ [])
+    4000 (0 ∷ 6 ∷ 0 ∷ [])
     -- writing exp: 10: a step too great on x
-    ∷ toldByWrite (0x65 ∷ 0x78 ∷ 0x70 ∷ []) (pos 128 ∷ pos 0 ∷ []) (pos 0 ∷ pos 0 ∷ []) (1 ∷ 4 ∷ []) [] 0 (10 ∷ 0 ∷ [])
+    ∷ toldByWrite (0x65 ∷ 0x78 ∷ 0x70 ∷ []) (pos 128 ∷ pos 0 ∷ []) (pos 0 ∷ pos 0 ∷ []) (1 ∷ 4 ∷ []) [] 0 (10 ∷ 0 ∷ 0 ∷ [])
     -- writing exp: 10: a step too great on y
-    ∷ toldByWrite (0x65 ∷ 0x78 ∷ 0x70 ∷ []) (pos 0 ∷ pos 0 ∷ []) (pos 128 ∷ pos 0 ∷ []) (1 ∷ 4 ∷ []) [] 0 (10 ∷ 0 ∷ [])
+    ∷ toldByWrite (0x65 ∷ 0x78 ∷ 0x70 ∷ []) (pos 0 ∷ pos 0 ∷ []) (pos 128 ∷ pos 0 ∷ []) (1 ∷ 4 ∷ []) [] 0 (10 ∷ 0 ∷ 0 ∷ [])
     -- writing exp: 10: a step too small on x
-    ∷ toldByWrite (0x65 ∷ 0x78 ∷ 0x70 ∷ []) (negsuc 127 ∷ pos 0 ∷ []) (pos 0 ∷ pos 0 ∷ []) (1 ∷ 4 ∷ []) [] 0 (10 ∷ 0 ∷ [])
+    ∷ toldByWrite (0x65 ∷ 0x78 ∷ 0x70 ∷ []) (negsuc 127 ∷ pos 0 ∷ []) (pos 0 ∷ pos 0 ∷ []) (1 ∷ 4 ∷ []) [] 0 (10 ∷ 0 ∷ 0 ∷ [])
     -- writing exp: 10: a step too small on y
-    ∷ toldByWrite (0x65 ∷ 0x78 ∷ 0x70 ∷ []) (pos 0 ∷ pos 0 ∷ []) (negsuc 127 ∷ pos 0 ∷ []) (1 ∷ 4 ∷ []) [] 0 (10 ∷ 0 ∷ [])
+    ∷ toldByWrite (0x65 ∷ 0x78 ∷ 0x70 ∷ []) (pos 0 ∷ pos 0 ∷ []) (negsuc 127 ∷ pos 0 ∷ []) (1 ∷ 4 ∷ []) [] 0 (10 ∷ 0 ∷ 0 ∷ [])
     -- writing jef: steps at both limits
     ∷ toldByWrite (0x6A ∷ 0x65 ∷ 0x66 ∷ []) (negsuc 126 ∷ pos 127 ∷ pos 0 ∷ []) (pos 127 ∷ negsuc 126 ∷ pos 0 ∷ []) (1 ∷ 0 ∷ 4 ∷ []) []
-    4000 (0 ∷ 132 ∷ [])
+    4000 (0 ∷ 132 ∷ 0 ∷ [])
     -- writing jef: 10: a step too great on x
-    ∷ toldByWrite (0x6A ∷ 0x65 ∷ 0x66 ∷ []) (pos 128 ∷ pos 0 ∷ []) (pos 0 ∷ pos 0 ∷ []) (1 ∷ 4 ∷ []) [] 0 (10 ∷ 0 ∷ [])
+    ∷ toldByWrite (0x6A ∷ 0x65 ∷ 0x66 ∷ []) (pos 128 ∷ pos 0 ∷ []) (pos 0 ∷ pos 0 ∷ []) (1 ∷ 4 ∷ []) [] 0 (10 ∷ 0 ∷ 0 ∷ [])
     -- writing jef: 10: a step too great on y
-    ∷ toldByWrite (0x6A ∷ 0x65 ∷ 0x66 ∷ []) (pos 0 ∷ pos 0 ∷ []) (pos 128 ∷ pos 0 ∷ []) (1 ∷ 4 ∷ []) [] 0 (10 ∷ 0 ∷ [])
+    ∷ toldByWrite (0x6A ∷ 0x65 ∷ 0x66 ∷ []) (pos 0 ∷ pos 0 ∷ []) (pos 128 ∷ pos 0 ∷ []) (1 ∷ 4 ∷ []) [] 0 (10 ∷ 0 ∷ 0 ∷ [])
     -- writing jef: 10: a step too small on x
-    ∷ toldByWrite (0x6A ∷ 0x65 ∷ 0x66 ∷ []) (negsuc 127 ∷ pos 0 ∷ []) (pos 0 ∷ pos 0 ∷ []) (1 ∷ 4 ∷ []) [] 0 (10 ∷ 0 ∷ [])
+    ∷ toldByWrite (0x6A ∷ 0x65 ∷ 0x66 ∷ []) (negsuc 127 ∷ pos 0 ∷ []) (pos 0 ∷ pos 0 ∷ []) (1 ∷ 4 ∷ []) [] 0 (10 ∷ 0 ∷ 0 ∷ [])
     -- writing jef: 10: a step too small on y
-    ∷ toldByWrite (0x6A ∷ 0x65 ∷ 0x66 ∷ []) (pos 0 ∷ pos 0 ∷ []) (negsuc 127 ∷ pos 0 ∷ []) (1 ∷ 4 ∷ []) [] 0 (10 ∷ 0 ∷ [])
+    ∷ toldByWrite (0x6A ∷ 0x65 ∷ 0x66 ∷ []) (pos 0 ∷ pos 0 ∷ []) (negsuc 127 ∷ pos 0 ∷ []) (1 ∷ 4 ∷ []) [] 0 (10 ∷ 0 ∷ 0 ∷ [])
     -- writing exp: a buffer just long enough
-    ∷ toldByWrite (0x65 ∷ 0x78 ∷ 0x70 ∷ []) (pos 1 ∷ pos 0 ∷ pos 0 ∷ []) (pos 1 ∷ pos 0 ∷ pos 0 ∷ []) (1 ∷ 3 ∷ 4 ∷ []) [] 8 (0 ∷ 8 ∷ [])
+    ∷ toldByWrite (0x65 ∷ 0x78 ∷ 0x70 ∷ []) (pos 1 ∷ pos 0 ∷ pos 0 ∷ []) (pos 1 ∷ pos 0 ∷ pos 0 ∷ []) (1 ∷ 3 ∷ 4 ∷ []) [] 8 (0 ∷ 8 ∷ 0 ∷ [])
     -- writing exp: 11: a buffer a byte too short
-    ∷ toldByWrite (0x65 ∷ 0x78 ∷ 0x70 ∷ []) (pos 1 ∷ pos 0 ∷ pos 0 ∷ []) (pos 1 ∷ pos 0 ∷ pos 0 ∷ []) (1 ∷ 3 ∷ 4 ∷ []) [] 7 (11 ∷ 0 ∷ [])
+    ∷ toldByWrite (0x65 ∷ 0x78 ∷ 0x70 ∷ []) (pos 1 ∷ pos 0 ∷ pos 0 ∷ []) (pos 1 ∷ pos 0 ∷ pos 0 ∷ []) (1 ∷ 3 ∷ 4 ∷ []) [] 7 (11 ∷ 0 ∷ 0 ∷ [])
+    ∷ [])
+    -- ---- writing: how far off the threads are
+    -- writing pec: no threads
+    ∷ (toldByWrite (0x70 ∷ 0x65 ∷ 0x63 ∷ []) (pos 0 ∷ []) (pos 0 ∷ []) (4 ∷ []) [] 993 (0 ∷ 993 ∷ 0 ∷ [])
+    -- writing pec: a colour of the chart
+    ∷ toldByWrite (0x70 ∷ 0x65 ∷ 0x63 ∷ []) (pos 0 ∷ []) (pos 0 ∷ []) (4 ∷ []) (0xF0 ∷ 0xF0 ∷ 0xF0 ∷ []) 993 (0 ∷ 993 ∷ 0 ∷ [])
+    -- writing pec: a thread off its entry
+    ∷ toldByWrite (0x70 ∷ 0x65 ∷ 0x63 ∷ []) (pos 0 ∷ []) (pos 0 ∷ []) (4 ∷ []) (0xFF ∷ 0xFF ∷ 0xFF ∷ []) 993 (0 ∷ 993 ∷ 2023 ∷ [])
+    -- writing pec: two near threads: the second has another entry
+    ∷ toldByWrite (0x70 ∷ 0x65 ∷ 0x63 ∷ []) (pos 0 ∷ []) (pos 0 ∷ []) (4 ∷ []) (0x00 ∷ 0x00 ∷ 0x00 ∷ 0x00 ∷ 0x00 ∷ 0x01 ∷ []) 993
+    (0 ∷ 993 ∷ 5116 ∷ [])
+    -- writing pec: one thread twice
+    ∷ toldByWrite (0x70 ∷ 0x65 ∷ 0x63 ∷ []) (pos 0 ∷ []) (pos 0 ∷ []) (4 ∷ []) (0x00 ∷ 0x00 ∷ 0x00 ∷ 0x00 ∷ 0x00 ∷ 0x00 ∷ []) 993
+    (0 ∷ 993 ∷ 0 ∷ [])
+    -- writing pec: the largest is the first
+    ∷ toldByWrite (0x70 ∷ 0x65 ∷ 0x63 ∷ []) (pos 0 ∷ []) (pos 0 ∷ []) (4 ∷ []) (0xFF ∷ 0x00 ∷ 0xFF ∷ 0x00 ∷ 0x00 ∷ 0x00 ∷ []) 993
+    (0 ∷ 993 ∷ 49790 ∷ [])
+    -- writing pec: the largest is the last
+    ∷ toldByWrite (0x70 ∷ 0x65 ∷ 0x63 ∷ []) (pos 0 ∷ []) (pos 0 ∷ []) (4 ∷ []) (0x00 ∷ 0x00 ∷ 0x00 ∷ 0xFF ∷ 0x00 ∷ 0xFF ∷ []) 993
+    (0 ∷ 993 ∷ 49790 ∷ [])
+    -- writing pec: refused: 0
+    ∷ toldByWrite (0x70 ∷ 0x65 ∷ 0x63 ∷ []) (pos 0 ∷ []) (pos 0 ∷ []) (4 ∷ []) (0xFF ∷ 0xFF ∷ 0xFF ∷ []) 992 (11 ∷ 0 ∷ 0 ∷ [])
+    -- writing jef: no threads: the one entry is no thread's
+    ∷ toldByWrite (0x6A ∷ 0x65 ∷ 0x66 ∷ []) (pos 0 ∷ []) (pos 0 ∷ []) (4 ∷ []) [] 126 (0 ∷ 126 ∷ 0 ∷ [])
+    -- writing jef: a thread off its entry
+    ∷ toldByWrite (0x6A ∷ 0x65 ∷ 0x66 ∷ []) (pos 0 ∷ []) (pos 0 ∷ []) (4 ∷ []) (0xF0 ∷ 0xF0 ∷ 0xF0 ∷ []) 126 (0 ∷ 126 ∷ 1087 ∷ [])
+    -- writing jef: the second not at its neighbour's entry
+    ∷ toldByWrite (0x6A ∷ 0x65 ∷ 0x66 ∷ []) (pos 0 ∷ []) (pos 0 ∷ []) (4 ∷ []) (0x00 ∷ 0x00 ∷ 0x00 ∷ 0x00 ∷ 0x00 ∷ 0x01 ∷ []) 134
+    (0 ∷ 134 ∷ 9796 ∷ [])
+    -- writing jef: one thread twice
+    ∷ toldByWrite (0x6A ∷ 0x65 ∷ 0x66 ∷ []) (pos 0 ∷ []) (pos 0 ∷ []) (4 ∷ []) (0x00 ∷ 0x00 ∷ 0x00 ∷ 0x00 ∷ 0x00 ∷ 0x00 ∷ []) 134
+    (0 ∷ 134 ∷ 0 ∷ [])
+    -- writing jef: the largest is the first
+    ∷ toldByWrite (0x6A ∷ 0x65 ∷ 0x66 ∷ []) (pos 0 ∷ []) (pos 0 ∷ []) (4 ∷ []) (0xFF ∷ 0x00 ∷ 0xFF ∷ 0x00 ∷ 0x00 ∷ 0x00 ∷ []) 134
+    (0 ∷ 134 ∷ 40266 ∷ [])
+    -- writing jef: refused: 0
+    ∷ toldByWrite (0x6A ∷ 0x65 ∷ 0x66 ∷ []) (pos 0 ∷ []) (pos 0 ∷ []) (4 ∷ []) (0xF0 ∷ 0xF0 ∷ 0xF0 ∷ []) 125 (11 ∷ 0 ∷ 0 ∷ [])
+    -- writing dst: no entries
+    ∷ toldByWrite (0x64 ∷ 0x73 ∷ 0x74 ∷ []) (pos 0 ∷ []) (pos 0 ∷ []) (4 ∷ []) (0xFF ∷ 0xFF ∷ 0xFF ∷ []) 515 (0 ∷ 515 ∷ 0 ∷ [])
     ∷ [])
     ∷ []
 
@@ -955,17 +996,18 @@ unfolding edges between all any count keep next firstWhere orElse lastWhere same
     padded fuelled opOf commands endsOnce placed samePlace isChange isTrim stands anyFrom written lastX lastY minZ maxZ leastFrom
     greatestFrom least greatest minX minY maxX maxY width height threadsOf pecName dstName pecChart jefChart blankIcon halfToEven gap
     weighed distance noNearer nearest nearestIndex nearestFirst choices pecPalette jefPalette sameColor entryOf jefNearest jefChoice
-    jefEntries recordThen events wordAt blank trimStart beforeEnd trimEnd trimmed cutBefore linesOf begins shadeAt fromChart bit weigh dstX dstY under
-    dstRecord dstFirst lastLabel hexDigit hexPair hexColor sixDigits dropHashes beforeComma lineColor addColor lineColors digit rest z27 z9
-    z3 z1 pair dstBytes dstCmd line signedRight recordCount dstText dstFile jumpsFirst stitchNext cutNext dstCuts atLeastOne lesser floorOf
-    within pixel painted marked drawn atFront colorBlocks icons longAxis axisOf afterAxis bothAxes starts pecChange pecFirst pecEvents pecLabel pecEntry pecStored noCount wide pecValue
-    pecStart pecNext pause pecCmd pecStitches distinct give givenTo foundOr uniquePalette pecColors pecHeader pecBlock pecPart pecFile
-    halves matrixField threadCode runLength runX runY pesStart opens pesNext pesPoint pesOpen pesCmd pesSections sectionCount opensSection
-    colorLog pesString shorts pesBlocks pesMiddle pesFile partAt two control after80 pairFirst pairOf expCmd expFile jefRecords jefCount
-    jefEntry jefStored jefCmd word pointsIn pointCount jefHoop halfUp hoopEdges orOne jefTable words jefHeader jefFile numberOf lower named namedIn
+    jefEntries away farthest recordThen events wordAt blank trimStart beforeEnd trimEnd trimmed cutBefore linesOf begins shadeAt fromChart
+    bit weigh dstX dstY under dstRecord dstFirst lastLabel hexDigit hexPair hexColor sixDigits dropHashes beforeComma lineColor addColor
+    lineColors digit rest z27 z9 z3 z1 pair dstBytes dstCmd line signedRight recordCount dstText dstFile jumpsFirst stitchNext cutNext
+    dstCuts atLeastOne lesser floorOf within pixel painted marked drawn atFront colorBlocks icons longAxis axisOf afterAxis bothAxes
+    starts pecChange pecFirst pecEvents pecLabel pecEntry pecStored noCount wide pecValue pecStart pecNext pause pecCmd pecStitches
+    distinct give givenTo foundOr uniquePalette pecDistance pecColors pecHeader pecBlock pecPart pecFile halves matrixField threadCode
+    runLength runX runY pesStart opens pesNext pesPoint pesOpen pesCmd pesSections sectionCount opensSection colorLog pesString shorts
+    pesBlocks pesMiddle pesFile partAt two control after80 pairFirst pairOf expCmd expFile jefRecords jefCount jefEntry jefStored jefCmd
+    word pointsIn pointCount jefHoop halfUp hoopEdges orOne jefTable jefDistance words jefHeader jefFile numberOf lower named namedIn
     extensionOf badList outside placeOutside changes tooMany moves moved leastStep greatestStep stepIn stepsPast stepTooLong verdict
-    listRefusals pointsAfter startOf places runOf runs blockOf begunAfter blocks pointTotal blockTotal cuts fileOf eventsOf labelOf stored
-    defaults colorNumber orDefault colourOf placesOf runsOf blocksOf cutsOf fileRefusals noRoom fileVerdict readVerdict placesTold runsTold
-    blocksTold cutsTold countsOf readAnswer readNumber readCounts filled fileTold writeVerdict writeAnswer writeNumber writeLength labelUnder
-    labelTold add sub mul div neg lt ofInt ofBits round toBits
-edges-hold = (refl, (refl, (refl, (refl, (refl, (refl, (refl, (refl, (refl, (refl, (refl, (refl, (refl, (refl, (refl, tt)))))))))))))))
+    listRefusals pointsAfter startOf places runOf runs blockOf begunAfter blocks pointTotal blockTotal cuts fileOf distanceOf eventsOf
+    labelOf stored defaults colorNumber orDefault colourOf placesOf runsOf blocksOf cutsOf fileRefusals noRoom fileVerdict readVerdict
+    placesTold runsTold blocksTold cutsTold countsOf readAnswer readNumber readCounts filled fileTold distanceTold writeVerdict
+    writeAnswer writeNumber writeLength writeDistance labelUnder labelTold add sub mul div neg lt ofInt ofBits round toBits
+edges-hold = (refl, (refl, (refl, (refl, (refl, (refl, (refl, (refl, (refl, (refl, (refl, (refl, (refl, (refl, (refl, (refl, tt))))))))))))))))

@@ -63,6 +63,7 @@ expLayout = record {
   extension = 0x65 ∷ 0x78 ∷ 0x70 ∷ [];
   file = λ name cs threads. expFile cs;
   bound = λ n t. 4 * n;
+  distance = λ threads. 0;
   least = negℤ (pos 127);
   greatest = pos 127;
   refusals = λ s. [];

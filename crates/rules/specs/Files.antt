@@ -34,6 +34,10 @@ use Rattle.rules.specs.declared.WriteAnswer.the-variants.{Written, Unwri
 unfoldable pub fileOf : Format → List ℕ → List Cmd → List ℕ → List ℕ
 fileOf f name cs threads = layoutOf f .file name cs threads
 
+-- the largest distance between a thread and the chart's own colour of the entry written for it
+unfoldable pub distanceOf : Format → List ℕ → ℕ
+distanceOf f threads = layoutOf f .distance threads
+
 -- ---- reading: events, label, colours
 
 unfoldable pub eventsOf : Format → List ℕ → List Event
@@ -140,10 +144,14 @@ filled (Refused r) answer l = l
 
 -- ---- writing: what the call gives back
 
--- the file by extension
+-- the file and the distance by extension
 unfoldable pub fileTold : Extension → List ℕ → List Cmd → List ℕ → List ℕ
 fileTold Unknown name cs threads = []
 fileTold (Of f) name cs threads = fileOf f name cs threads
+
+unfoldable pub distanceTold : Extension → List ℕ → ℕ
+distanceTold Unknown threads = 0
+distanceTold (Of f) threads = distanceOf f threads
 
 -- Writing checks 1, 6, 7, 8, 9, 10, 11; n is the length of the caller-provided buffer.
 unfoldable pub writeVerdict : Extension → List ℕ → List ℤ → List ℤ → List ℕ → List ℕ → ℕ → Verdict
@@ -153,19 +161,23 @@ writeVerdict (Of f) name xs ys kinds threads n = verdict
     ++ (BufferTooShort, ltb n (length (fileOf f name (commands xs ys kinds) threads)))
     ∷ [])
 
--- what a write answers under a verdict: the length of the file
-unfoldable pub writeAnswer : Verdict → ℕ → WriteAnswer
-writeAnswer Accepted len = Written len
-writeAnswer (Refused r) len = Unwritten r
+-- what a write with a distance answers under a verdict: the length of the file, and the distance
+unfoldable pub writeAnswer : ℕ → Verdict → ℕ → WriteAnswer
+writeAnswer far Accepted len = Written len far
+writeAnswer far (Refused r) len = Unwritten r
 
--- the number, 0 without a refusal, and the length, 0 with one
+-- the number, 0 without a refusal, and the length and the distance, 0 with one
 unfoldable pub writeNumber : WriteAnswer → ℕ
-writeNumber (Written len) = 0
+writeNumber (Written len far) = 0
 writeNumber (Unwritten r) = numberOf r
 
 unfoldable pub writeLength : WriteAnswer → ℕ
-writeLength (Written len) = len
+writeLength (Written len far) = len
 writeLength (Unwritten r) = 0
+
+unfoldable pub writeDistance : WriteAnswer → ℕ
+writeDistance (Written len far) = far
+writeDistance (Unwritten r) = 0
 
 -- ---- the label
 

@@ -10,7 +10,7 @@ use lib.ListN.{length, drop, replicate}
 use Rattle.rules.specs.Vocabulary.{pick, bitsOf, little, joined}
 use Rattle.rules.specs.Lists.{opOf, written, width, height, threadsOf}
 use Rattle.rules.specs.Charts.{jefChart}
-use Rattle.rules.specs.Choices.{jefEntries}
+use Rattle.rules.specs.Choices.{jefPalette, jefEntries, farthest}
 use Rattle.rules.specs.Records.{events}
 use Rattle.rules.specs.Text.{wordAt}
 use Rattle.rules.specs.Layout.{Layout, Stored, nothing, fromChart}
@@ -95,6 +95,10 @@ orOne (e ∷ es) = e ∷ es
 unfoldable pub jefTable : List Color → List ℕ
 jefTable threads = orOne (jefEntries First threads)
 
+-- how far off the threads are, by the entries written in the table
+unfoldable pub jefDistance : List Color → ℕ
+jefDistance threads = farthest jefPalette threads (jefTable threads)
+
 unfoldable pub words : List ℕ → List ℕ
 words ns = joined (map (little 4) ns)
 
@@ -130,6 +134,7 @@ jefLayout = record {
   extension = 0x6A ∷ 0x65 ∷ 0x66 ∷ [];
   file = λ name cs threads. jefFile cs (threadsOf threads);
   bound = λ n t. 124 + 4 * n + 8 * t;
+  distance = λ threads. jefDistance (threadsOf threads);
   least = negℤ (pos 127);
   greatest = pos 127;
   refusals = λ s. (FileTooShort, ltb (length s) 4) ∷ [];

@@ -26,6 +26,8 @@ pub record Layout : Type 0 where
   pub file : List ℕ → List Cmd → List ℕ → List ℕ
   -- no file of n commands and t threads is longer than `bound n t`
   pub bound : ℕ → ℕ → ℕ
+  -- the largest distance between one of the threads and the chart's own colour of the entry written for it; 0 where none is written
+  pub distance : List ℕ → ℕ
   -- the refusals of a file besides 2 (before these) and 11 (after them), in the order of checking
   pub refusals : List ℕ → List (Refusal × Bool)
   -- what the records of a file do

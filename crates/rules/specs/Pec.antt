@@ -10,7 +10,7 @@ use Rattle.rules.specs.Vocabulary.{pick, eqZ, between, any, signed, bits
 use Rattle.rules.specs.Limits.{mostChanges}
 use Rattle.rules.specs.Lists.{opOf, width, height, threadsOf, pecName}
 use Rattle.rules.specs.Charts.{pecChart}
-use Rattle.rules.specs.Choices.{sameColor, nearestIndex, pecPalette}
+use Rattle.rules.specs.Choices.{sameColor, nearestIndex, pecPalette, farthest}
 use Rattle.rules.specs.Records.{Event, events}
 use Rattle.rules.specs.Text.{trimmed}
 use Rattle.rules.specs.Layout.{Layout, Stored, nothing, fromChart}
@@ -168,6 +168,10 @@ uniquePalette threads =
     let g : Given = givenTo (record { free = pecPalette; chart = replicate 65 Empty }) (distinct [] threads) in
     map (λ (t : Color). foundOr 0 (nearestIndex t (g .chart))) threads
 
+-- how far off the threads are, by the entries written in the part
+unfoldable pub pecDistance : List Color → ℕ
+pecDistance threads = farthest pecPalette threads (uniquePalette threads)
+
 -- ---- writing: the part
 
 -- the count less one and the entries; no threads: count byte FF
@@ -217,6 +221,7 @@ pecLayout = record {
   extension = 0x70 ∷ 0x65 ∷ 0x63 ∷ [];
   file = λ name cs threads. pecFile name cs (threadsOf threads);
   bound = λ n t. 992 + 6 * n + 228 * min n mostChanges;
+  distance = λ threads. pecDistance (threadsOf threads);
   least = negℤ (pos 2048);
   greatest = pos 2047;
   refusals = λ s. (FileTooShort, noCount 8 s) ∷ [];

@@ -16,7 +16,7 @@ use Rattle.rules.specs.Choices.{nearestIndex, pecPalette}
 use Rattle.rules.specs.Text.{wordAt, begins}
 use Rattle.rules.specs.Layout.{Layout}
 use Rattle.rules.specs.Answers.{cuts}
-use Rattle.rules.specs.Pec.{foundOr, pecPart, pecEvents, pecLabel, pecStored, noCount}
+use Rattle.rules.specs.Pec.{foundOr, pecDistance, pecPart, pecEvents, pecLabel, pecStored, noCount}
 use Rattle.rules.specs.declared.Cmd.{Cmd}
 use Rattle.rules.specs.declared.Color.{Color}
 use Rattle.rules.specs.declared.Op.{Op}
@@ -176,6 +176,8 @@ pesLayout = record {
   extension = 0x70 ∷ 0x65 ∷ 0x73 ∷ [];
   file = λ name cs threads. pesFile name cs (threadsOf threads);
   bound = λ n t. 1094 + 26 * n + 228 * min n mostChanges;
+  -- by the entries of the part: the codes of the sections do not count
+  distance = λ threads. pecDistance (threadsOf threads);
   least = negℤ (pos 2048);
   greatest = pos 2047;
   refusals = λ s.

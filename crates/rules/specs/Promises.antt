@@ -12,7 +12,7 @@ use Rattle.rules.specs.Limits.{mostCommands, mostThreads}
 use Rattle.rules.specs.Lists.{commands}
 use Rattle.rules.specs.Formats.{layoutOf}
 use Rattle.rules.specs.Refusals.{numberOf, listVerdict}
-use Rattle.rules.specs.Files.{fileOf, fileTold, writeVerdict, writeAnswer, writeNumber, writeLength, filled}
+use Rattle.rules.specs.Files.{fileOf, fileTold, distanceTold, writeVerdict, writeAnswer, writeNumber, writeLength, writeDistance, filled}
 use Rattle.rules.specs.Files.{placesOf, runsOf, blocksOf, placesTold, runsTold, blocksTold, cutsTold, countsOf}
 use Rattle.rules.specs.Files.{fileVerdict, readVerdict, readAnswer, readNumber, readCounts, labelTold}
 use Rattle.rules.specs.Jobs.{jobXs, jobYs, jobKinds, jobThreads, jobVerdict, jobCounts, importVerdict, importAnswer, importNumber, importCounts}
@@ -56,6 +56,7 @@ module _ (e : Extension) (name : List ℕ) (xs ys : List ℤ) (kinds threads out
   -- `write`, where the buffer is `out` at entry and `out′` at exit
   pub record Wrote (out′ : List ℕ) (w : WriteAnswer) : Type 0 where
     pub answered : w ≡ writeAnswer
+        (distanceTold e threads)
         (writeVerdict e name xs ys kinds threads (length out))
         (length (fileTold e name (commands xs ys kinds) threads))
     pub stored : out′ ≡ filled
@@ -63,12 +64,13 @@ module _ (e : Extension) (name : List ℕ) (xs ys : List ℤ) (kinds threads out
         (fileTold e name (commands xs ys kinds) threads)
         out
 
-  -- `stitch_box_write`: the answer's number, 0 without a refusal, and the length of the file, 0 with one
-  pub record WroteNumbers (out′ : List ℕ) (n len : ℕ) : Type 0 where
+  -- `stitch_box_write`: the answer's number, 0 without a refusal, and the length of the file and the distance, 0 with one
+  pub record WroteNumbers (out′ : List ℕ) (n len far : ℕ) : Type 0 where
     pub answer : WriteAnswer
     pub wrote : Wrote out′ answer
     pub number : n ≡ writeNumber answer
     pub size : len ≡ writeLength answer
+    pub distance : far ≡ writeDistance answer
 
 -- `write_bound`: the cells that hold the file of any list of n commands and t threads that a format accepts
 unfoldable pub boundOf : Format → ℕ → ℕ → ℕ

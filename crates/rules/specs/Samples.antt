@@ -19,7 +19,7 @@ use Rattle.rules.specs.declared.Op.the-variants.{Stitch, Jump}
 
 -- the number by which a list of a stitch to (z, 0) and the end is refused; 0 if it is accepted
 unfoldable pub refusedBy : Format → ℤ → ℕ
-refusedBy f z = writeNumber (writeAnswer (listVerdict f (z ∷ z ∷ []) (pos 0 ∷ pos 0 ∷ []) (0 ∷ 4 ∷ []) []) 0)
+refusedBy f z = writeNumber (writeAnswer 0 (listVerdict f (z ∷ z ∷ []) (pos 0 ∷ pos 0 ∷ []) (0 ∷ 4 ∷ []) []) 0)
 
 -- what a definition gives, and what it must be
 unfoldable pub samples : List (List ℕ × List ℕ)

@@ -353,6 +353,7 @@ vp3Layout = record {
   extension = 0x76 ∷ 0x70 ∷ 0x33 ∷ [];
   file = λ name cs threads. vp3File cs (threadsOf threads);
   bound = λ n t. 283 + 8 * n + 57 * min n mostChanges;
+  distance = λ threads. 0;
   least = negℤ (pos (2 * furthest));
   greatest = pos (2 * furthest);
   refusals = λ s. (BadOpening, not (begins vp3Opening s)) ∷ rowOf (faultIn (vp3Blocks s));

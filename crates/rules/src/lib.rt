@@ -48,6 +48,18 @@ pub enum Found {
     Missing,
 }
 
+// What the choice of the nearest entry answers: its index and its distance; or there is no thread to choose. Of equals it is the later.
+pub enum Nearest {
+    Near(usize, u32),
+    NoThread,
+}
+
+// The same of JEF's choice. Of equals it is the first.
+pub enum JefNearest {
+    Near(usize, u32),
+    NoThread,
+}
+
 // The thread before in JEF's thread table, with the entry chosen for it, if there is one.
 pub enum Previous {
     First,
@@ -92,9 +104,9 @@ pub enum ReadAnswer {
     Unread(Refusal),
 }
 
-// What a write answers: the length of the file.
+// What a write answers: the length of the file, and the largest distance of a thread from its entry.
 pub enum WriteAnswer {
-    Written(usize),
+    Written(usize, u32),
     Unwritten(Refusal),
 }
 

@@ -18,7 +18,7 @@ use Rattle.rules.specs.Lists.{commands}
 use Rattle.rules.specs.Records.{Event, stitch, jump, change}
 use Rattle.rules.specs.Refusals.{verdict, listRefusals, listVerdict}
 use Rattle.rules.specs.Files.{fileOf, eventsOf, colourOf, placesOf, runsOf, blocksOf, cutsOf, readVerdict, placesTold, runsTold, blocksTold, cutsTold, countsOf}
-use Rattle.rules.specs.Files.{readAnswer, readNumber, readCounts, filled, fileTold, writeVerdict, writeAnswer, writeNumber, writeLength}
+use Rattle.rules.specs.Files.{readAnswer, readNumber, readCounts, filled, fileTold, distanceTold, writeVerdict, writeAnswer, writeNumber, writeLength}
 use Rattle.rules.specs.Sewing.{Entry, entry, Adding, ofBlocks, ofBuffers, listSewing, fileSewing, toldSewing, Needle, needle, listNeedles, fileNeedles, toldNeedles}
 use Rattle.rules.specs.Promises.{Wrote, ReadOf, Room, KeepsJumps}
 use Rattle.rules.specs.declared.Cmd.{Cmd}
@@ -149,7 +149,7 @@ module _ (t : RoundTrip) where
   accepts : writeVerdict (t .extension) (t .name) (t .xs) (t .ys) (t .kinds) (t .threads) (length (t .d)) ≡ Accepted
   accepts = write-accepts (t .format) (t .extension) (t .name) (t .xs) (t .ys) (t .kinds) (t .threads) (length (t .d)) (t .named) (t .accepted) (t .room .bytes)
 
-  is-written : t .w ≡ Written (length file)
+  is-written : t .w ≡ Written (length file) (distanceTold (t .extension) (t .threads))
   unfolding writeAnswer fileTold
   is-written = t .wrote .answered ∙ rw (accepts, t .named)
 

@@ -144,13 +144,13 @@ unfolding writeVerdict verdict numberOf
 any-small Unknown name xs ys kinds threads n room = λ e. omega arith
 any-small (Of f) name xs ys kinds threads n room = known-small f name xs ys kinds threads n room
 
-not-eleven : (v : Verdict) (len : ℕ) → Small v → writeAnswer v len ≡ Unwritten BufferTooShort → ⊥
+not-eleven : (v : Verdict) (far len : ℕ) → Small v → writeAnswer far v len ≡ Unwritten BufferTooShort → ⊥
 unfolding writeAnswer numberOf writeNumber
-not-eleven Accepted len s e = let z : _≡_ {A = ℕ} 0 1 = cc in omega arith
-not-eleven (Refused r) len s e = s (ap writeNumber e)
+not-eleven Accepted far len s e = let z : _≡_ {A = ℕ} 0 1 = cc in omega arith
+not-eleven (Refused r) far len s e = s (ap writeNumber e)
 
 -- `write` into a buffer that is at least as long as `write_bound` answers is never refused by 11
 pub never-short : (e : Extension) (name : List ℕ) (xs ys : List ℤ) (kinds threads d d′ : List ℕ) (w : WriteAnswer) → Wrote e name xs ys kinds threads d d′ w
     → boundTold e (length kinds) (length threads / 3) ≤ length d → w ≡ Unwritten BufferTooShort → ⊥
 never-short e name xs ys kinds threads d d′ w p room is =
-    not-eleven (writeVerdict e name xs ys kinds threads (length d)) _ (any-small e name xs ys kinds threads (length d) room) (sym (p .answered) ∙ is)
+    not-eleven (writeVerdict e name xs ys kinds threads (length d)) _ _ (any-small e name xs ys kinds threads (length d) room) (sym (p .answered) ∙ is)

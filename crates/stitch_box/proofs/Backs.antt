@@ -29,25 +29,25 @@ use Rattle.stitch_box.specs.Back.{backAnswer, ReadBackOf}
 
 -- ---- what an answer says of the verdict
 
-apart : {n : ℕ} {why : Refusal} → Written n ≡ Unwritten why → ⊥
+apart : {n far : ℕ} {why : Refusal} → Written n far ≡ Unwritten why → ⊥
 apart e = let z : _≡_ {A = ℕ} 0 1 = cc in omega arith
 
-length-of : {n m : ℕ} → Written n ≡ Written m → n ≡ m
+length-of : {n far m far′ : ℕ} → Written n far ≡ Written m far′ → n ≡ m
 unfolding writeLength
 length-of e = ap writeLength e
 
 why-of : {r s : Refusal} → Unwritten r ≡ Unwritten s → Refused r ≡ Refused s
 why-of e = cc
 
-if-written : (v : Verdict) (len n : ℕ) → Written n ≡ writeAnswer v len → (v ≡ Accepted) × (n ≡ len)
+if-written : (v : Verdict) (far len n k : ℕ) → Written n k ≡ writeAnswer far v len → (v ≡ Accepted) × (n ≡ len)
 unfolding writeAnswer
-if-written Accepted len n e = (refl, length-of e)
-if-written (Refused r) len n e = absurd (apart e)
+if-written Accepted far len n k e = (refl, length-of e)
+if-written (Refused r) far len n k e = absurd (apart e)
 
-if-unwritten : (v : Verdict) (len : ℕ) (why : Refusal) → Unwritten why ≡ writeAnswer v len → v ≡ Refused why
+if-unwritten : (v : Verdict) (far len : ℕ) (why : Refusal) → Unwritten why ≡ writeAnswer far v len → v ≡ Refused why
 unfolding writeAnswer
-if-unwritten Accepted len why e = absurd (apart (sym e))
-if-unwritten (Refused r) len why e = sym (why-of e)
+if-unwritten Accepted far len why e = absurd (apart (sym e))
+if-unwritten (Refused r) far len why e = sym (why-of e)
 
 -- ---- an answer of both calls
 
@@ -75,9 +75,9 @@ module _ {e : Extension} {name : List ℕ} {xs ys : List ℤ} {kinds threads d d
 
   -- ---- the list is written
 
-  module _ {n : ℕ} (is : w ≡ Written n) where
+  module _ {n far : ℕ} (is : w ≡ Written n far) where
     accepted : (says ≡ Accepted) × (n ≡ length file)
-    accepted = if-written says (length file) n (sym is ∙ p .answered)
+    accepted = if-written says _ (length file) n far (sym is ∙ p .answered)
 
     held : d′ ≡ file ++ drop (length file) d
     unfolding filled
@@ -158,7 +158,7 @@ module _ {e : Extension} {name : List ℕ} {xs ys : List ℤ} {kinds threads d d
 
   module _ {why : Refusal} (is : w ≡ Unwritten why) where
     refused : says ≡ Refused why
-    refused = if-unwritten says (length file) why (sym is ∙ p .answered)
+    refused = if-unwritten says _ (length file) why (sym is ∙ p .answered)
 
     pub none : (ps : List ℤ) (rs bs : List ℕ) → WroteAndRead e name xs ys kinds threads d ps rs bs d′ ps rs bs (NotWritten why)
     unfolding orThen roundTripAnswer filled

@@ -49,8 +49,9 @@ pub fn write_stitch_file(
     }
 }
 
-// Writes a list as the file that an extension names, to the front of the buffer: the file's length, and cells behind it stay; or why the
-// list is refused, and the buffer as it was.
+// Writes a list as the file that an extension names, to the front of the buffer: the file's length, and cells behind it stay; and the largest
+// distance between a thread and the chart's own colour of its entry in PES, PEC and JEF, else 0. Or why the list is refused, and the buffer
+// as it was.
 pub fn write(
     ext: &[u8],
     name: &[u8],
@@ -167,7 +168,7 @@ pub fn write_and_read(
 {
     let written = write(ext, name, xs, ys, kinds, threads, file);
     match written {
-        WriteAnswer::Written(n) => read_back(n, ext, &file[..n], places, runs, blocks),
+        WriteAnswer::Written(n, _) => read_back(n, ext, &file[..n], places, runs, blocks),
         WriteAnswer::Unwritten(why) => RoundTripAnswer::NotWritten(why),
     }
 }

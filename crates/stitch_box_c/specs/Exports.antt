@@ -33,8 +33,9 @@ ReadsNumbers e file places runs blocks r points runs-n blocks-n cuts =
     ReadNumbers e file (was places) (was runs) (was blocks) (left places) (left runs) (left blocks) r (left points) (left runs-n) (left blocks-n) (left cuts)
 
 -- `WroteNumbers` of a list of records
-abbrev pub WroteCmdsNumbers : Extension → List ℕ → List Cmd → List ℕ → List ℕ → List ℕ → ℕ → ℕ → Type 0
-WroteCmdsNumbers e name cmds threads out out′ r len = WroteNumbers e name (xsOf cmds) (ysOf cmds) (kindsOf cmds) threads out out′ r len
+abbrev pub WroteCmdsNumbers : Extension → List ℕ → List Cmd → List ℕ → List ℕ → List ℕ → ℕ → ℕ → ℕ → Type 0
+WroteCmdsNumbers e name cmds threads out out′ r len far =
+    WroteNumbers e name (xsOf cmds) (ysOf cmds) (kindsOf cmds) threads out out′ r len far
 
 -- `ImportedNumbers` of the buffers and the numbers passed
 abbrev pub ImportsNumbers : List ℕ → Lent (List ℤ) → Lent (List ℤ) → Lent (List ℕ) → Lent (List ℕ) → ℕ → Lent ℕ → Lent ℕ → Type 0

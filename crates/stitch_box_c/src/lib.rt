@@ -9,7 +9,7 @@ use rules::ReadAnswer;
 use rules::WriteAnswer;
 use write_refusals::number;
 ghost use mathlib.Core.Path.{_≡_};
-ghost use Rattle.rules.specs.Files.{readNumber, readCounts, writeNumber, writeLength};
+ghost use Rattle.rules.specs.Files.{readNumber, readCounts, writeNumber, writeLength, writeDistance};
 ghost use Rattle.rules.specs.Jobs.{importNumber, importCounts, exportNumber, exportLength};
 ghost use Rattle.rules.specs.Promises.{was, left, WroteNumbers, boundTold, LabelNumbers, JobNameNumbers, ExportedNumbers};
 ghost use Rattle.rules.specs.Refusals.{extensionOf};
@@ -96,23 +96,25 @@ pub extern "C" fn stitch_box_label(
     put_label(answer, start, length)
 }
 
-// The number of an answer, its length being put: 0 and the length, or the refusal's number and 0.
-fn put_length(answer: WriteAnswer, length: &mut u64) -> u32
-    ensures { λ r. ⌜ (r ≡ writeNumber answer) × (left length ≡ writeLength answer) ⌝ }
+// The number of an answer, its length and distance being put: 0 and these, or the refusal's number and zeros.
+fn put_written(answer: WriteAnswer, length: &mut u64, distance: &mut u32) -> u32
+    ensures { λ r. ⌜ (r ≡ writeNumber answer) × (left length ≡ writeLength answer) × (left distance ≡ writeDistance answer) ⌝ }
 {
     match answer {
-        WriteAnswer::Written(n) => {
+        WriteAnswer::Written(n, far) => {
             *length = n as u64;
+            *distance = far;
             0
         }
         WriteAnswer::Unwritten(why) => {
             *length = 0;
+            *distance = 0;
             number(why)
         }
     }
 }
 
-// `write`; the length of the file becomes 0 under a refusal.
+// `write`; the length of the file and the distance become 0 under a refusal.
 #[no_mangle]
 pub extern "C" fn stitch_box_write(
     ext: &[u8],
@@ -123,14 +125,16 @@ pub extern "C" fn stitch_box_write(
     threads: &[u8],
     out: &mut [u8],
     length: &mut u64,
+    distance: &mut u32,
 ) -> u32
-    ensures { λ r. ⌜ WroteNumbers (extensionOf (was ext)) (was name) (was xs) (was ys) (was kinds) (was threads) (was out) (left out) r (left length) ⌝ }
+    ensures { λ r. ⌜ WroteNumbers (extensionOf (was ext)) (was name) (was xs) (was ys) (was kinds) (was threads)
+        (was out) (left out) r (left length) (left distance) ⌝ }
 {
     let answer = stitch_box::write(ext, name, xs, ys, kinds, threads, out);
-    put_length(answer, length)
+    put_written(answer, length, distance)
 }
 
-// `write_cmds`; the length of the file becomes 0 under a refusal.
+// `write_cmds`; the length of the file and the distance become 0 under a refusal.
 #[no_mangle]
 pub extern "C" fn stitch_box_write_cmds(
     ext: &[u8],
@@ -139,11 +143,13 @@ pub extern "C" fn stitch_box_write_cmds(
     threads: &[u8],
     out: &mut [u8],
     length: &mut u64,
+    distance: &mut u32,
 ) -> u32
-    ensures { λ r. ⌜ WroteCmdsNumbers (extensionOf (was ext)) (was name) (was cmds) (was threads) (was out) (left out) r (left length) ⌝ }
+    ensures { λ r. ⌜ WroteCmdsNumbers (extensionOf (was ext)) (was name) (was cmds) (was threads) (was out) (left out) r
+        (left length) (left distance) ⌝ }
 {
     let answer = stitch_box_cmds::write_cmds(ext, name, cmds, threads, out);
-    put_length(answer, length)
+    put_written(answer, length, distance)
 }
 
 // `write_bound`.

@@ -11,7 +11,7 @@ use lib.IntN.{ℤ}
 use lib.ListN.{length, take, drop, length-map}
 use lib.Seq.{sets, sets-eq, take-length, take-at}
 use Rattle.laws.specs.Tests.{false-true}
-use Rattle.rules.specs.Files.{filled, fileTold, writeVerdict, writeAnswer}
+use Rattle.rules.specs.Files.{filled, fileTold, distanceTold, writeVerdict, writeAnswer}
 use Rattle.rules.specs.Lists.{commands}
 use Rattle.rules.specs.Promises.{xsOf, ysOf, kindsOf, Wrote}
 use Rattle.rules.specs.Refusals.{badList, listRefusals, verdict}
@@ -83,7 +83,7 @@ module _ (f : Format) (name : List ℕ) (cs : List Cmd) (threads os o : List ℕ
         let v = refused f name (xsOf cs) (ysOf cs) (kindsOf cs) threads (length os) (too-many (xsOf cs) (ysOf cs) (kindsOf cs)
         (ap (ltb 65535) (length-map cs (λ (c : Cmd). c .kind)) ∙ lt-ltb 65535 (length cs) h)) in
         record {
-          answered = subst (λ (r : Verdict). w ≡ writeAnswer r (length file)) (sym v) (q .0);
+          answered = subst (λ (r : Verdict). w ≡ writeAnswer (distanceTold (Of f) threads) r (length file)) (sym v) (q .0);
           stored = subst (λ (r : Verdict). o ≡ filled r file os) (sym v) (q .1);
         }
 

@@ -65,7 +65,7 @@ fn write_accepted(
     out: &mut [u8],
 ) -> WriteAnswer
     requires { ⌜ Known (now xs) (now ys) (now kinds) × (1 ≤ length (now kinds)) ⌝ }
-    ensures { λ r. ⌜ Answered writeAnswer (vp3File (commands (was xs) (was ys) (was kinds)) (threadsOf (was threads))) (was out) (left out) r ⌝ }
+    ensures { λ r. ⌜ Answered (writeAnswer 0) (vp3File (commands (was xs) (was ys) (was kinds)) (threadsOf (was threads))) (was out) (left out) r ⌝ }
 {
     let mut ends = [0usize; 256];
     let mut lens = [0usize; 256];
@@ -88,7 +88,7 @@ fn write_accepted(
         out,
         at,
     );
-    WriteAnswer::Written(end)
+    WriteAnswer::Written(end, 0)
 }
 
 // Writes a list as a VP3 file to the front of the buffer: its length; or why it is refused, and the buffer as it was.

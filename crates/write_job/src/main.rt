@@ -35,7 +35,7 @@ fn write(
 ) {
     let answer = stitch_box::write(extension(out), name, xs, ys, kinds, threads, file);
     match answer {
-        WriteAnswer::Written(n) => {
+        WriteAnswer::Written(n, _) => {
             let end = at_most(n, file.len());
             replace_file(out, &file[..end]);
         }

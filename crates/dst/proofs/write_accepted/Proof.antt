@@ -1,4 +1,5 @@
 -- By the length of the file.
+use mathlib.Core.Path.{refl}
 use Rattle.stream.proofs.Lengths.{stream-most}
 use Rattle.stream_cmd.specs.declared.Stream.the-variants.{Dst}
 use native.Mathlib.Omega.{arith}
@@ -15,7 +16,7 @@ add-n c =
     omega (arith, c .stream-len .ensures, stream-most Dst (now (a .xs)) (now (a .ys)) (now (a .kinds)), c .before .before .before .before .pre .0)
 
 returns : tie.Need-returns
-returns c = unwritten (c .if1 .taken) (rw (c .before .stream-len .ensures) (length-file _ _))
+returns c = unwritten 0 (c .if1 .taken) (rw (c .before .stream-len .ensures) (length-file _ _))
 
 put-file-requires : tie.Need-put-file-requires
 put-file-requires c κs =
@@ -24,7 +25,7 @@ put-file-requires c κs =
 returns-2 : tie.Need-returns-2
 returns-2 c =
     let if1 = c .before .before .before .before .if1 in let stream-len = c .before .before .before .before .before .stream-len in
-    written (if1 .left) (rw (stream-len .ensures) (length-file _ _)) (c .before .before .put-file .ensures)
+    written (if1 .left) (rw (stream-len .ensures) (length-file _ _)) (c .before .before .put-file .ensures) refl
 
 pub write-accepted-spec : {M : Type 1} → statement M
 write-accepted-spec =

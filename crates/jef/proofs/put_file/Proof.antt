@@ -19,15 +19,18 @@ put-header-requires c κs =
 
 put-stream-requires : tie.Need-put-stream-requires
 put-stream-requires c κs =
-    let put-header = c .before .before .before .put-header in let start = c .before .before .before .before .before .before .before .before in
+    let start = c .before .before .before .before .before .before .before .before in
     let a = start .args in
     let cs = commands (now (a .xs)) (now (a .ys)) (now (a .kinds)) in
     let ts = threadsOf (now (a .threads)) in
-    (start .pre .0 .1 .1, omega (arith, length-file cs ts, put-header .ensures .ends, put-header .ensures .same, start .pre .1 .1))
+    let header = c .before .before .before .put-header .ensures .0 in
+    (start .pre .0 .1 .1, omega (arith, length-file cs ts, header .ends, header .same, start .pre .1 .1))
 
 returns : tie.Need-returns
 unfolding jefFile
-returns c = put-put (c .before .before .before .before .before .before .put-header .ensures) (c .before .before .put-stream .ensures)
+returns c =
+    let at-put-stream = c .before .before in let at-put-header = at-put-stream .before .before .before .before in
+    let header = at-put-header .put-header .ensures in (put-put (header .0) (at-put-stream .put-stream .ensures), header .1)
 
 pub put-file-spec : {M : Type 1} → statement M
 put-file-spec = tie.close (tie.spec put-header-requires put-stream-requires (λ c. search needs) returns)

@@ -42,31 +42,52 @@ jef-palette-requires c κs =
 
 put-kinds-requires : tie.Need-put-kinds-requires
 put-kinds-requires c κs =
-    let early = c .before .before .before .before .before .before .before .before .before .before in
-    let len = early .before .before .before .before .before .before .before .before .before .before .before .before in
-    omega (arith, start-ends, sizes-ends, words-ends, early, room (len .before .before .before .before), len .table-len .ensures)
+    let at-jef-palette = c .before .before .before in let at-put-sizes = at-jef-palette .before .before .before .before in
+    let at-put-start = at-put-sizes .before .before .before .before in
+    let at-table-len = at-put-start .before .before .before .before .before .before .before .before .before .before .before in
+    let early = at-table-len .before .before .before .before in
+    omega (
+      arith,
+      start-ends,
+      sizes-ends,
+      words-ends,
+      at-put-start .put-start .ensures,
+      at-put-sizes .put-sizes .ensures,
+      at-jef-palette .jef-palette .ensures .0,
+      room early,
+      at-table-len .table-len .ensures,
+    )
 
 -- the bounds, as the code reads them
 across : (c : tie.After-spread) → (let r = c .before .before .before .near-bounds .result in SFits w32 (r .min .x) × SFits w32 (r .max .x))
 across c = (search (needs, c .before .before .struct-told .given), search (needs, c .before .struct-told2 .given))
 
 down : (c : tie.After-spread2) → (let r = c .before .before .before .before .before .before .near-bounds .result in SFits w32 (r .min .y) × SFits w32 (r .max .y))
-down c = (search (needs, c .before .before .struct-told3 .given), search (needs, c .before .struct-told4 .given))
+down c =
+    let at-struct-told4 = c .before in let at-struct-told3 = at-struct-told4 .before in
+    (search (needs, at-struct-told3 .struct-told3 .given), search (needs, at-struct-told4 .struct-told4 .given))
 
 returns : tie.Need-returns
 returns c =
-    let put = c .before .before .before .before .before .before .before .before .before .before .before .before .before .before in
-    let high = put .before .before .before .before in
-    let wide = high .before .before .before in
-    let b = wide .before .before .before in
-    let a = b .before .before .before .before .before .args in
+    let at-put-kinds = c .before .before in let at-jef-palette = at-put-kinds .before .before .before .before in
+    let at-put-sizes = at-jef-palette .before .before .before .before in let at-put-start = at-put-sizes .before .before .before .before in
+    let at-jef-hoop = at-put-start .before .before in let at-point-count = at-jef-hoop .before in
+    let at-spread2 = at-point-count .before in let at-spread = at-spread2 .before .before .before in
+    let at-near-bounds = at-spread .before .before .before in let at-table-len = at-near-bounds .before in
+    let start = at-table-len .before .before .before .before in
+    let a = start .args in
     let cs = commands (now (a .xs)) (now (a .ys)) (now (a .kinds)) in
-    let w = width-is cs (b .near-bounds .ensures) (across wide .0) (across wide .1) (wide .spread .ensures) in
-    let h = height-is cs (b .near-bounds .ensures) (down high .0) (down high .1) (high .spread2 .ensures) in
-    let sizes = c .before .before .before .before .before .before .before .before .before .before .put-sizes .ensures in
-    let table = c .before .before .before .before .before .before .jef-palette .ensures in
-    put-as (put-put (put .put-start .ensures) (put-put sizes (put-put table (c .before .before .put-kinds .ensures))))
-    (header-as cs (threadsOf (now (a .threads))) (b .before .table-len .ensures) (put .before .before .before .point-count .ensures) (put .before .before .jef-hoop .ensures) w h)
+    let wide = at-spread in
+    let high = at-spread2 in
+    let w = width-is cs (at-near-bounds .near-bounds .ensures) (across wide .0) (across wide .1) (at-spread .spread .ensures) in
+    let h = height-is cs (at-near-bounds .near-bounds .ensures) (down high .0) (down high .1) (at-spread2 .spread2 .ensures) in
+    let table = at-jef-palette .jef-palette .ensures in (
+      put-as (put-put (at-put-start .put-start .ensures)
+          (put-put (at-put-sizes .put-sizes .ensures) (put-put (table .0) (at-put-kinds .put-kinds .ensures))))
+          (header-as cs (threadsOf (now (a .threads))) (at-table-len .table-len .ensures) (at-point-count .point-count .ensures)
+          (at-jef-hoop .jef-hoop .ensures) w h),
+      table .1,
+    )
 
 pub put-header-spec : {M : Type 1} → statement M
 put-header-spec =

@@ -1,6 +1,7 @@
 -- By the length of the file.
 use native.Mathlib.Omega.{arith}
 use denote.Ref.{now}
+use Rattle.rules.specs.Files.{fileOf, distanceOf}
 use Rattle.stream_cmd.specs.declared.Stream.the-variants.{Jef}
 use Rattle.stream.proofs.Lengths.{stream-most}
 use Rattle.emit.proofs.Writes.{fits, written, unwritten}
@@ -22,23 +23,28 @@ add-n c =
 
 add-n-2 : tie.Need-add-n-2
 add-n-2 c =
-    let start = c .before .before .before .before .before in
+    let at-table-len = c .before in let start = at-table-len .before .before .before .before in
     let a = start .args in
-    omega (arith, c .before .table-len .ensures, length-table (now (a .threads)), c .stream-len .ensures, stream-most Jef (now (a .xs)) (now (a .ys)) (now (a .kinds)), start .pre)
+    omega (arith, at-table-len .table-len .ensures, length-table (now (a .threads)), c .stream-len .ensures, stream-most Jef (now (a .xs)) (now (a .ys)) (now (a .kinds)), start .pre)
 
 returns : tie.Need-returns
-returns c = unwritten (c .if1 .taken) (rw (c .before .before .table-len .ensures, c .before .stream-len .ensures) (file-long _ _))
+unfolding fileOf distanceOf
+returns c = unwritten _ (c .if1 .taken) (rw (c .before .before .table-len .ensures, c .before .stream-len .ensures) (file-long _ _))
 
 put-file-requires : tie.Need-put-file-requires
 put-file-requires c κs =
-    let table-len = c .before .before .before .table-len in let start = c .before .before .before .before .before .before .before in
-    (start .pre .0, (start .pre .1, fits (c .before .if1 .left) (rw (table-len .ensures, c .before .before .stream-len .ensures) (file-long _ _))))
+    let at-if1 = c .before in let at-stream-len = at-if1 .before in let at-table-len = at-stream-len .before in
+    let early = at-table-len .before .before .before .before in
+    let table-len = at-table-len .table-len in let start = early in
+    (start .pre .0, (start .pre .1, fits (at-if1 .if1 .left) (rw (table-len .ensures, at-stream-len .stream-len .ensures) (file-long _ _))))
 
 returns-2 : tie.Need-returns-2
+unfolding fileOf distanceOf
 returns-2 c =
-    let if1 = c .before .before .before .before .if1 in let stream-len = c .before .before .before .before .before .stream-len in
-    let table-len = c .before .before .before .before .before .before .table-len in
-    written (if1 .left) (rw (table-len .ensures, stream-len .ensures) (file-long _ _)) (c .before .before .put-file .ensures)
+    let at-put-file = c .before .before in let at-if1 = at-put-file .before .before in let at-stream-len = at-if1 .before in
+    let at-table-len = at-stream-len .before in
+    let file = at-put-file .put-file .ensures in
+    written (at-if1 .if1 .left) (rw (at-table-len .table-len .ensures, at-stream-len .stream-len .ensures) (file-long _ _)) (file .0) (file .1)
 
 pub write-accepted-spec : {M : Type 1} → statement M
 write-accepted-spec =

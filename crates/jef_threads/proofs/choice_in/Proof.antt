@@ -1,80 +1,96 @@
 -- after another thread: its entry is another, or the colours are alike, or they are not
 use Prim.Native.Nat.{ℕ}
-use mathlib.Core.Path.{_≡_, sym, ap, _∙_}
+use mathlib.Core.Path.{_≡_, refl, sym, ap, _∙_}
 use mathlib.Core.Bool.{true, false, and-false}
 use mathlib.Core.List.{List}
 use borrow.Author.Tests.{eq-eqb, ne-eqb}
 use lib.Dec.{eqb}
 use lib.ListN.{set}
 use Rattle.rules.specs.Charts.{jefChart}
-use Rattle.rules.specs.Choices.{nearestFirst, choices, jefPalette, sameColor, entryOf, jefNearest, jefChoice}
+use Rattle.rules.specs.Choices.{nearestFirstAnswer, choices, jefPalette, sameColor, jefNearest, jefChoice}
 use Rattle.rules.specs.declared.Color.{Color}
-use Rattle.rules.specs.declared.Found.{Found}
+use Rattle.rules.specs.declared.JefNearest.{JefNearest}
 use Rattle.rules.specs.declared.Previous.{Previous}
-use Rattle.rules.specs.declared.Previous.the-variants.{Entry}
+use Rattle.rules.specs.declared.Previous.the-variants.{First, Entry}
 use Rattle.rules.specs.declared.Slot.{Slot}
 use Rattle.rules.specs.declared.Slot.the-variants.{Empty}
+use Rattle.laws.specs.Neighbours.{chosenAt, jef-nearest-told, jef-choice-told}
+use Rattle.jef_threads.specs.Distances.{entryIn}
 use borrow.Author.Needs.{needs}
 use Rattle.jef_threads.proofs.choice_in.Statement.{statement}
 use Rattle.jef_threads.proofs.choice_in.Tie as tie
 
-module _ (t : Color) {chart : List Slot} (p : chart ≡ jefPalette) where
-  -- the chart's entry 0 is empty as it is
-  plain : {f : Found} {n : ℕ} → f ≡ nearestFirst t chart → n ≡ entryOf f → n ≡ jefNearest t 0
-  unfolding jefNearest jefPalette choices jefChart
-  plain q r = r ∙ ap entryOf (q ∙ ap (nearestFirst t) p)
+-- the chart's entry 0 is empty as it is
+zeroth : jefPalette ≡ set jefPalette 0 Empty
+unfolding jefPalette choices jefChart
+zeroth = refl
 
-  but : (skip : ℕ) {n : ℕ} → n ≡ entryOf (nearestFirst t (set chart skip Empty)) → n ≡ jefNearest t skip
-  unfolding jefNearest
-  but skip q = rw (← p) q
+module _ (t : Color) {chart : List Slot} (p : chart ≡ jefPalette) where
+  plain : {f : JefNearest} → f ≡ nearestFirstAnswer t chart → f ≡ chosenAt t (jefNearest t 0)
+  plain q = q ∙ ap (nearestFirstAnswer t) (p ∙ zeroth) ∙ jef-nearest-told t 0
+
+  but : (skip : ℕ) {f : JefNearest} → f ≡ nearestFirstAnswer t (set chart skip Empty) → f ≡ chosenAt t (jefNearest t skip)
+  but skip q = q ∙ ap (λ (ps : List Slot). nearestFirstAnswer t (set ps skip Empty)) p ∙ jef-nearest-told t skip
+
+-- the entry that was nearest
+entry-is : (t : Color) {f : JefNearest} {n : ℕ} → f ≡ chosenAt t (jefNearest t 0) → n ≡ entryIn f → n ≡ jefNearest t 0
+entry-is t q e = e ∙ ap entryIn q
+
+-- what is chosen, by the thread before
+first : (t : Color) {last : Previous} → last ≡ First → jefNearest t 0 ≡ jefChoice last t
+unfolding jefChoice
+first t e = rw e
 
 module _ (t : Color) {last : Previous} {i n : ℕ} {u : Color} (e : last ≡ Entry i u) (f : n ≡ jefNearest t 0) where
-  another : (n ≡ i → ⊥) → n ≡ jefChoice last t
+  another : (n ≡ i → ⊥) → jefNearest t 0 ≡ jefChoice last t
   unfolding jefChoice
   another h = rw (e, ← f, ne-eqb n i h)
 
-  alike : sameColor u t ≡ true → n ≡ jefChoice last t
+  alike : sameColor u t ≡ true → jefNearest t 0 ≡ jefChoice last t
   unfolding jefChoice
-  alike s = rw (e, ← f, s, and-false (eqb n i))
+  alike s = rw (e, s, and-false (eqb (jefNearest t 0) i))
 
-  unlike : {chart : List Slot} {r : ℕ} → chart ≡ jefPalette → n ≡ i → sameColor u t ≡ false → r ≡ entryOf (nearestFirst t (set chart i Empty)) → r ≡ jefChoice last t
+  unlike : n ≡ i → sameColor u t ≡ false → jefNearest t i ≡ jefChoice last t
   unfolding jefChoice
-  unlike p h s g = rw (e, ← f, s, eq-eqb n i h) (but t p i g)
+  unlike h s = rw (e, s, ← f, eq-eqb n i h)
 
 returns : tie.Need-returns
-unfolding jefChoice
 returns c =
-    let nearest-first = c .before .before .before .nearest-first in let start = c .before .before .before .before in
-    rw (c .enum-told .given .1) (plain (start .args .t) (start .pre) (nearest-first .ensures) (c .before .before .entry-of .ensures))
+    let at-nearest-first = c .before .before in let start = at-nearest-first .before in
+    let t = start .args .t in
+    plain t (start .pre) (at-nearest-first .nearest-first .ensures) ∙ jef-choice-told (start .args .last) t (first t (c .enum-told .given .1))
 
 returns-2 : tie.Need-returns-2
 returns-2 c =
-    let entry-of = c .before .before .before .before .entry-of in let nearest-first = c .before .before .before .before .before .nearest-first in
-    let start = c .before .before .before .before .before .before in
+    let at-entry-of = c .before in let at-last = at-entry-of .before .before in let at-nearest-first = at-last .before .before in
+    let start = at-nearest-first .before in
     let t = start .args .t in
-    another t (c .before .before .last .given .1) (plain t (start .pre) (nearest-first .ensures) (entry-of .ensures)) (c .if1 .taken)
+    let near = plain t (start .pre) (at-nearest-first .nearest-first .ensures) in
+    near ∙ jef-choice-told (start .args .last) t (another t (at-last .last .given .1) (entry-is t near (at-entry-of .entry-of .ensures)) (c .if1 .taken))
 
 returns-3 : tie.Need-returns-3
 returns-3 c =
-    let last′ = c .before .before .before .before .last in let entry-of = c .before .before .before .before .before .before .entry-of in
-    let nearest-first = c .before .before .before .before .before .before .before .nearest-first in
-    let start = c .before .before .before .before .before .before .before .before in
+    let at-same-color = c .before in let at-entry-of = at-same-color .before .before in let at-last = at-entry-of .before .before in
+    let at-nearest-first = at-last .before .before in let start = at-nearest-first .before in
     let t = start .args .t in
-    alike t (last′ .given .1) (plain t (start .pre) (nearest-first .ensures) (entry-of .ensures)) (sym (c .before .same-color .ensures) ∙ c .if2 .taken)
+    let near = plain t (start .pre) (at-nearest-first .nearest-first .ensures) in
+    near ∙ jef-choice-told (start .args .last) t
+    (alike t (at-last .last .given .1) (entry-is t near (at-entry-of .entry-of .ensures)) (sym (at-same-color .same-color .ensures) ∙ c .if2 .taken))
 
 returns-4 : tie.Need-returns-4
 returns-4 c =
-    let if1 = c .before .before .before .if1 in let last′ = c .before .before .before .before .before .last in
-    let entry-of = c .before .before .before .before .before .before .before .entry-of in
-    let nearest-first = c .before .before .before .before .before .before .before .before .nearest-first in
-    let start = c .before .before .before .before .before .before .before .before .before in
+    let at-if2 = c .before in let at-same-color = at-if2 .before in let at-if1 = at-same-color .before in
+    let at-entry-of = at-if1 .before in let at-last = at-entry-of .before .before in let at-nearest-first = at-last .before .before in
+    let start = at-nearest-first .before in
     let t = start .args .t in
-    unlike t (last′ .given .1) (plain t (start .pre) (nearest-first .ensures) (entry-of .ensures)) (start .pre) (if1 .left)
-    (sym (c .before .before .same-color .ensures) ∙ c .before .if2 .left) (c .nearest-but .ensures)
+    let last′ = at-last .last .given .1 in
+    let near = plain t (start .pre) (at-nearest-first .nearest-first .ensures) in
+    but t (start .pre) _ (c .nearest-but .ensures) ∙ jef-choice-told (start .args .last) t
+    (unlike t last′ (entry-is t near (at-entry-of .entry-of .ensures)) (at-if1 .if1 .left) (sym (at-same-color .same-color .ensures) ∙ at-if2 .if2 .left))
 
 pub choice-in-spec : {M : Type 1} → statement M
 choice-in-spec =
     tie.close
     (tie.spec
-    (λ c κs. search needs) (λ c κs. search needs) (λ c. search needs) (λ c. search needs) returns returns-2
+    (λ c κs. search needs) (λ c. search needs) (λ c. search needs) returns (λ c κs. search needs) returns-2
     (λ c κs. search needs) returns-3 (λ c κs. search needs) returns-4)

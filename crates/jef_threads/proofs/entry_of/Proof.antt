@@ -1,9 +1,7 @@
 -- `entry_of` meets its contract. Assumes nothing.
-use Rattle.rules.specs.Choices.{entryOf}
 use borrow.Author.Needs.{needs}
 use Rattle.jef_threads.proofs.entry_of.Statement.{statement}
 use Rattle.jef_threads.proofs.entry_of.Tie as tie
 
 pub entry-of-spec : {M : Type 1} → statement M
-unfolding entryOf
 entry-of-spec = tie.close (tie.spec (λ c. search needs) (λ c. search needs) (λ c. search needs) (λ c. search needs))

@@ -7,7 +7,8 @@ use denote.Ref.{now}
 use lib.ListN.{length, replicate}
 use Rattle.rules.specs.Vocabulary.{joined}
 use Rattle.rules.specs.Lists.{threadsOf}
-use Rattle.rules.specs.Pec.{uniquePalette, pecColors}
+use Rattle.rules.specs.Choices.{farthest}
+use Rattle.rules.specs.Pec.{uniquePalette, pecDistance, pecColors}
 use Rattle.laws.specs.Buffers.{put-as, put-put}
 use Rattle.laws.specs.Lengths.{length-unique}
 use Rattle.laws.specs.Threads.{length-threads, threads-none}
@@ -30,21 +31,30 @@ module _ (threads : List ℕ) where
   unfolding uniquePalette
   none e = rw (threads-none threads (omega (arith, e)))
 
+  none-off : n ≡ 0 → 0 ≡ pecDistance (threadsOf threads)
+  unfolding pecDistance farthest
+  none-off e = rw (threads-none threads (omega (arith, e)))
+
   some : ((n ≡ 0) → ⊥) → replicate 12 0x20 ++ (((n - 1) ∷ []) ++ uniquePalette (threadsOf threads)) ≡ pecColors (uniquePalette (threadsOf threads))
   some h = with-count (uniquePalette (threadsOf threads)) (omega (arith, length-unique (threadsOf threads), length-threads threads, h))
 
 returns : tie.Need-returns
 returns c =
-    let if1 = c .before .before .before .before .if1 in let start = c .before .before .before .before .before .before .before in
-    put-as (c .before .before .put-no-colors .ensures) (none (now (start .args .threads)) (if1 .taken))
+    let at-put-no-colors = c .before .before in let at-if1 = at-put-no-colors .before .before in
+    let start = at-if1 .before .before .before in
+    let s = now (start .args .threads) in
+    (put-as (at-put-no-colors .put-no-colors .ensures) (none s (at-if1 .if1 .taken)), none-off s (at-if1 .if1 .taken))
 
 returns-2 : tie.Need-returns-2
 returns-2 c =
-    let put = c .before .before .before .before .before .before .put in
-    let put-times = c .before .before .before .before .before .before .before .before .before .before .put-times in
-    let at-if1 = c .before .before .before .before .before .before .before .before .before .before .before .before in let if1 = at-if1 .if1 in
+    let at-unique-palette = c .before .before in let at-put = at-unique-palette .before .before .before .before in
+    let at-put-times = at-put .before .before .before .before in let at-if1 = at-put-times .before .before in
     let start = at-if1 .before .before .before in
-    put-as (put-put (put-times .ensures) (put-put (put .ensures) (c .before .before .unique-palette .ensures))) (some (now (start .args .threads)) (if1 .left))
+    let entries = at-unique-palette .unique-palette .ensures in (
+      put-as (put-put (at-put-times .put-times .ensures) (put-put (at-put .put .ensures) (entries .0)))
+          (some (now (start .args .threads)) (at-if1 .if1 .left)),
+      entries .1,
+    )
 
 pub put-colors-spec : {M : Type 1} → statement M
 put-colors-spec =

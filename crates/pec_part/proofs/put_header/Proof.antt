@@ -12,21 +12,21 @@ use Rattle.pec_part.proofs.put_header.Tie as tie
 
 put-colors-requires : tie.Need-put-colors-requires
 put-colors-requires c κs =
-    let put-label = c .before .before .before .put-label in let start = c .before .before .before .before .before .before .before .before in
+    let at-put-label = c .before .before .before in let early = at-put-label .before .before .before .before .before in
+    let put-label = at-put-label .put-label in let start = early in
     let a = start .args in
     (start .pre .0, omega (arith, start .pre, put-label .ensures .same, length-label (now (a .name)), length-threads (now (a .threads))))
 
 put-fill-requires : tie.Need-put-fill-requires
 put-fill-requires c κs =
-    let put-colors = c .before .before .before .put-colors in let put-label = c .before .before .before .before .before .before .before .put-label in
     let start = c .before .before .before .before .before .before .before .before .before .before .before .before in
     let a = start .args in (
       omega (arith, start .pre),
       omega (
         arith,
         start .pre,
-        put-label .ensures .same,
-        put-colors .ensures .same,
+        c .before .before .before .before .before .before .before .put-label .ensures .same,
+        c .before .before .before .put-colors .ensures .0 .same,
         length-label (now (a .name)),
         length-entries (threadsOf (now (a .threads))),
         length-threads (now (a .threads)),
@@ -35,13 +35,14 @@ put-fill-requires c κs =
 
 returns : tie.Need-returns
 returns c =
-    let put-colors = c .before .before .before .before .before .before .put-colors in
-    let put-label = c .before .before .before .before .before .before .before .before .before .before .put-label in
-    let early = c .before .before .before .before .before .before .before .before .before .before .before .before in
-    let start = early .before .before .before in
+    let at-put-fill = c .before .before in let at-put-colors = at-put-fill .before .before .before .before in
+    let at-put-label = at-put-colors .before .before .before .before in let start = at-put-label .before .before .before .before .before in
     let a = start .args in
-    put-as (put-put (put-label .ensures) (put-put (put-colors .ensures) (c .before .before .put-fill .ensures)))
-    (header-as (now (a .name)) (threadsOf (now (a .threads))) (sym (length-threads (now (a .threads)))))
+    let colors = at-put-colors .put-colors .ensures in (
+      put-as (put-put (at-put-label .put-label .ensures) (put-put (colors .0) (at-put-fill .put-fill .ensures)))
+          (header-as (now (a .name)) (threadsOf (now (a .threads))) (sym (length-threads (now (a .threads))))),
+      colors .1,
+    )
 
 pub put-header-spec : {M : Type 1} → statement M
 put-header-spec =

@@ -1,28 +1,29 @@
 -- The entry found, or 1.
 use Prim.Native.Nat.{ℕ}
-use mathlib.Core.Path.{_≡_, sym, _∙_}
+use mathlib.Core.Path.{_≡_, sym, ap, _∙_}
 use mathlib.Core.List.{List}
-use Rattle.rules.specs.Choices.{nearestIndex, pecPalette}
+use Rattle.rules.specs.Choices.{nearestIndex, nearestAnswer, pecPalette}
 use Rattle.rules.specs.Pec.{foundOr}
 use Rattle.rules.specs.declared.Color.{Color}
-use Rattle.rules.specs.declared.Found.{Found}
-use Rattle.rules.specs.declared.Found.the-variants.{At, Missing}
+use Rattle.rules.specs.declared.Nearest.{Nearest}
+use Rattle.rules.specs.declared.Nearest.the-variants.{Near, NoThread}
 use Rattle.rules.specs.declared.Slot.{Slot}
+use Rattle.laws.specs.Choosing.{foundIn, found-in}
 use Rattle.pec_threads.specs.Codes.{codeOf}
 use borrow.Author.Needs.{needs}
 use Rattle.pec_threads.proofs.code_in.Statement.{statement}
 use Rattle.pec_threads.proofs.code_in.Tie as tie
 
-module _ (t : Color) {chart : List Slot} {f : Found} (p : chart ≡ pecPalette) (e : f ≡ nearestIndex t chart) where
+module _ (t : Color) {chart : List Slot} {f : Nearest} (p : chart ≡ pecPalette) (e : f ≡ nearestAnswer t chart) where
   -- what the call found, in the chart of the rules
-  told : {g : Found} → f ≡ g → nearestIndex t pecPalette ≡ g
-  told h = rw (← p) (sym e ∙ h)
+  told : {g : Nearest} → f ≡ g → nearestIndex t pecPalette ≡ foundIn g
+  told h = sym (found-in t pecPalette) ∙ ap foundIn (ap (nearestAnswer t) (sym p) ∙ sym e ∙ h)
 
-  some : {k : ℕ} → f ≡ At k → k ≡ codeOf t
+  some : {k d : ℕ} → f ≡ Near k d → k ≡ codeOf t
   unfolding foundOr
   some h = rw (told h)
 
-  none : f ≡ Missing → 1 ≡ codeOf t
+  none : f ≡ NoThread → 1 ≡ codeOf t
   unfolding foundOr
   none h = rw (told h)
 

@@ -1,4 +1,5 @@
 -- By the length of the file.
+use Rattle.rules.specs.Files.{fileOf, distanceOf}
 use Rattle.emit.proofs.Writes.{fits, written, unwritten}
 use Rattle.pes.proofs.Files.{pec-long}
 use borrow.Author.Needs.{needs}
@@ -6,7 +7,8 @@ use Rattle.pes.proofs.pec_accepted.Statement.{statement}
 use Rattle.pes.proofs.pec_accepted.Tie as tie
 
 returns : tie.Need-returns
-returns c = unwritten (c .if1 .taken) (pec-long _ (c .before .part-len .ensures))
+unfolding fileOf distanceOf
+returns c = unwritten _ (c .if1 .taken) (pec-long _ (c .before .part-len .ensures))
 
 put-pec-file-requires : tie.Need-put-pec-file-requires
 put-pec-file-requires c κs =
@@ -20,9 +22,11 @@ put-pec-file-requires c κs =
     )
 
 returns-2 : tie.Need-returns-2
+unfolding fileOf distanceOf
 returns-2 c =
-    let if1 = c .before .before .before .before .before .if1 in let part-len = c .before .before .before .before .before .before .part-len in
-    written (if1 .left) (pec-long _ (part-len .ensures)) (c .before .before .put-pec-file .ensures)
+    let at-put-pec-file = c .before .before in let at-if1 = at-put-pec-file .before .before .before in let at-part-len = at-if1 .before in
+    let file = at-put-pec-file .put-pec-file .ensures in
+    written (at-if1 .if1 .left) (pec-long _ (at-part-len .part-len .ensures)) (file .0) (file .1)
 
 pub pec-accepted-spec : {M : Type 1} → statement M
 pec-accepted-spec =

@@ -1,5 +1,6 @@
 -- By the length of the file.
 use mathlib.Core.Path.{sym, _∙_}
+use Rattle.rules.specs.Files.{fileOf, distanceOf}
 use Rattle.emit.proofs.Writes.{fits, written, unwritten}
 use Rattle.pes.proofs.Files.{same-steps, bytes-small, logged-small, pes-long}
 use borrow.Author.Needs.{needs}
@@ -16,9 +17,10 @@ blocks-len-requires c κs =
     (bytes-small _ _ _ _ (p .0) _ m, logged-small _ _ _ _ (p .0) _ m)
 
 returns : tie.Need-returns
+unfolding fileOf distanceOf
 returns c =
     let blocks-len = c .before .before .blocks-len in let measured = c .before .before .before .before .measured in
-    unwritten (c .if1 .taken) (pes-long _ (measured .ensures) (blocks-len .ensures .0) (c .before .part-len .ensures))
+    unwritten _ (c .if1 .taken) (pes-long _ (measured .ensures) (blocks-len .ensures .0) (c .before .part-len .ensures))
 
 put-pes-file-requires : tie.Need-put-pes-file-requires
 put-pes-file-requires c κs =
@@ -49,12 +51,14 @@ put-pes-file-requires c κs =
     )
 
 returns-2 : tie.Need-returns-2
+unfolding fileOf distanceOf
 returns-2 c =
-    let if1 = c .before .before .before .before .before .before .if1 in
-    let part-len = c .before .before .before .before .before .before .before .part-len in
-    let blocks-len = c .before .before .before .before .before .before .before .before .blocks-len in
-    let measured = c .before .before .before .before .before .before .before .before .before .before .measured in
-    written (if1 .left) (pes-long _ (measured .ensures) (blocks-len .ensures .0) (part-len .ensures)) (c .before .before .put-pes-file .ensures)
+    let at-put-pes-file = c .before .before in let at-if1 = at-put-pes-file .before .before .before .before in
+    let at-part-len = at-if1 .before in let at-blocks-len = at-part-len .before in let at-measured = at-blocks-len .before .before in
+    let file = at-put-pes-file .put-pes-file .ensures in
+    written (at-if1 .if1 .left)
+    (pes-long _ (at-measured .measured .ensures) (at-blocks-len .blocks-len .ensures .0) (at-part-len .part-len .ensures))
+    (file .0) (file .1)
 
 pub pes-accepted-spec : {M : Type 1} → statement M
 pes-accepted-spec =

@@ -11,8 +11,8 @@ use Rattle.pes.proofs.put_pec_file.Tie as tie
 
 write-pec-requires : tie.Need-write-pec-requires
 write-pec-requires c κs =
-    let put-text = c .before .before .before .put-text in
-    let start = c .before .before .before .before .before .before .before .before .before .before in
+    let at-put-text = c .before .before .before in let start = at-put-text .before .before .before .before .before .before .before in
+    let put-text = at-put-text .put-text in
     let a = start .args in
     let cs = commands (now (a .xs)) (now (a .ys)) (now (a .kinds)) in
     let ts = threadsOf (now (a .threads)) in
@@ -21,7 +21,9 @@ write-pec-requires c κs =
 
 returns : tie.Need-returns
 unfolding pecFile
-returns c = put-put (c .before .before .before .before .before .before .put-text .ensures) (c .before .before .write-pec .ensures)
+returns c =
+    let at-write-pec = c .before .before in let at-put-text = at-write-pec .before .before .before .before in
+    (put-put (at-put-text .put-text .ensures) (at-write-pec .write-pec .ensures .0), at-write-pec .write-pec .ensures .1)
 
 pub put-pec-file-spec : {M : Type 1} → statement M
 unfolding pecFile

@@ -18,8 +18,8 @@ put-start-requires c κs =
 
 write-pes-blocks-requires : tie.Need-write-pes-blocks-requires
 write-pes-blocks-requires c κs =
-    let put-start = c .before .before .before .put-start in
-    let start′ = c .before .before .before .before .before .before .before .before .before .before in
+    let at-put-start = c .before .before .before in let start′ = at-put-start .before .before .before .before .before .before .before in
+    let put-start = at-put-start .put-start in
     let a = start′ .args in
     let cs = commands (now (a .xs)) (now (a .ys)) (now (a .kinds)) in
     let ts = threadsOf (now (a .threads)) in
@@ -28,9 +28,10 @@ write-pes-blocks-requires c κs =
 
 write-pec-requires : tie.Need-write-pec-requires
 write-pec-requires c κs =
-    let write-pes-blocks = c .before .before .before .write-pes-blocks in
-    let put-start = c .before .before .before .before .before .before .before .put-start in
-    let start′ = c .before .before .before .before .before .before .before .before .before .before .before .before .before .before in
+    let at-write-pes-blocks = c .before .before .before in let at-put-start = at-write-pes-blocks .before .before .before .before in
+    let start′ = at-put-start .before .before .before .before .before .before .before in
+    let write-pes-blocks = at-write-pes-blocks .write-pes-blocks in
+    let put-start = at-put-start .put-start in
     let a = start′ .args in
     let cs = commands (now (a .xs)) (now (a .ys)) (now (a .kinds)) in
     let ts = threadsOf (now (a .threads)) in
@@ -40,16 +41,19 @@ write-pec-requires c κs =
 
 returns : tie.Need-returns
 returns c =
-    let write-pes-blocks = c .before .before .before .before .before .before .write-pes-blocks in
-    let put-start = c .before .before .before .before .before .before .before .before .before .before .put-start in
-    let at-blocks-len = c .before .before .before .before .before .before .before .before .before .before .before .before in
-    let blocks-len = at-blocks-len .blocks-len in let start′ = at-blocks-len .before .before .before .before .before in
+    let at-write-pec = c .before .before in let at-write-pes-blocks = at-write-pec .before .before .before .before in
+    let at-put-start = at-write-pes-blocks .before .before .before .before in let at-blocks-len = at-put-start .before .before in
+    let start′ = at-blocks-len .before .before .before .before .before in
     let a = start′ .args in
     let cs = commands (now (a .xs)) (now (a .ys)) (now (a .kinds)) in
     let ts = threadsOf (now (a .threads)) in
     let p = start′ .pre .1 .1 in
-    let e = ap (λ (n : ℕ). 22 + n) (blocks-len .ensures .0) ∙ start-long cs ts (a .z) (p .1 .1 .0) in
-    put-as (put-put (put-start .ensures) (put-put (write-pes-blocks .ensures) (c .before .before .write-pec .ensures))) (file-as (now (a .name)) cs ts e)
+    let e = ap (λ (n : ℕ). 22 + n) (at-blocks-len .blocks-len .ensures .0) ∙ start-long cs ts (a .z) (p .1 .1 .0) in
+    let part = at-write-pec .write-pec .ensures in (
+      put-as (put-put (at-put-start .put-start .ensures) (put-put (at-write-pes-blocks .write-pes-blocks .ensures) (part .0)))
+          (file-as (now (a .name)) cs ts e),
+      part .1,
+    )
 
 pub put-pes-file-spec : {M : Type 1} → statement M
 put-pes-file-spec =

@@ -1,4 +1,5 @@
 -- The blocks are counted, and the file is as long as they say.
+use mathlib.Core.Path.{refl}
 use borrow.Author.Needs.{needs}
 use Prim.Native.Nat.{_+_, _*_, _≤_}
 use native.Mathlib.Omega.{arith}
@@ -31,7 +32,8 @@ returns : tie.Need-returns
 returns c =
     let scanned = c .before .before .before .before .before in
     let a = scanned .before .before .before .before .before .before .args in
-    unwritten (c .if1 .taken) (file-long (commands (now (a .xs)) (now (a .ys)) (now (a .kinds))) (threadsOf (now (a .threads))) (scanned .scan-list .ensures))
+    unwritten 0 (c .if1 .taken)
+    (file-long (commands (now (a .xs)) (now (a .ys)) (now (a .kinds))) (threadsOf (now (a .threads))) (scanned .scan-list .ensures))
 
 put-head-requires : tie.Need-put-head-requires
 put-head-requires c κs =
@@ -73,7 +75,8 @@ returns-2 c =
     let told = scanned .scan-list .ensures in
     let mid = m .middle .ensures in
     let whole = file-as cs ts told (framed .near-bounds .ensures) (mid .0) (mid .1 .0) (head .before .before .list-len .ensures) in
-    written (framed .before .if1 .left) (file-long cs ts told) (put-as (put-put (head .put-head .ensures) (c .before .before .put-blocks .ensures)) whole)
+    written (framed .before .if1 .left) (file-long cs ts told)
+    (put-as (put-put (head .put-head .ensures) (c .before .before .put-blocks .ensures)) whole) refl
 
 pub write-accepted-spec : {M : Type 1} → statement M
 write-accepted-spec =

@@ -1,5 +1,5 @@
 -- The checks decide, and then the room.
-use Rattle.rules.specs.Files.{fileOf}
+use Rattle.rules.specs.Files.{fileOf, distanceOf}
 use Rattle.emit.proofs.Writes.{fine, wrote, not-wrote}
 use borrow.Author.Needs.{needs}
 use Rattle.vp3.proofs.write_vp3.Statement.{statement}
@@ -11,7 +11,7 @@ write-accepted-requires c κs =
     (record { same-xs = g .same-xs; same-ys = g .same-ys; short = g .long; placed = g .places; few = g .few-changes }, g .some)
 
 pub write-vp3-spec : {M : Type 1} → statement M
-unfolding fileOf
+unfolding fileOf distanceOf
 write-vp3-spec =
     tie.close
     (tie.spec
