@@ -1,4 +1,4 @@
-//! The rows of crates/rules/specs/Edges.antt, each asked of the published Rust anew.
+//! The rows of crates/rules/proofs/Edges.antt, each asked of the published Rust anew.
 
 use crate::inputs::faulty_lists::Asked;
 use crate::oracle::hoop::{self, Hoop};
@@ -10,7 +10,7 @@ use std::{fs, io};
 
 /// Asks every row and prints how many there are of each kind; true if none differs.
 pub fn check_all() -> io::Result<bool> {
-    let path = Path::new(env!("CARGO_MANIFEST_DIR")).join("../crates/rules/specs/Edges.antt");
+    let path = Path::new(env!("CARGO_MANIFEST_DIR")).join("../crates/rules/proofs/Edges.antt");
     let text = fs::read_to_string(path)?;
     let table = text.split("\nedges =\n").nth(1).unwrap_or_default();
     let table = table.split("\n\n").next().unwrap_or_default();

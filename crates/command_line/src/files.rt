@@ -1,5 +1,4 @@
 // Files by name. Of a call that fails, standard error tells the name and why.
-ghost use Rattle.rules.specs.Promises.{left};
 ghost use Rattle.command_line.specs.Files.{Within};
 
 use super::FileAnswer;
@@ -7,7 +6,7 @@ use super::names::new_name;
 
 // One read to the front of a buffer. It reads nothing only at the end of the file, or if there is no room.
 fn read_some(fd: i32, name: &[u8], buf: &mut [u8]) -> FileAnswer
-    ensures { Within result (left buf) }
+    ensures { Within result buf.new }
 {
     let got = libc::read(fd, buf);
     if got < 0 {
@@ -18,7 +17,7 @@ fn read_some(fd: i32, name: &[u8], buf: &mut [u8]) -> FileAnswer
 }
 
 fn read_all(fd: i32, name: &[u8], buf: &mut [u8]) -> FileAnswer
-    ensures { Within result (left buf) }
+    ensures { Within result buf.new }
 {
     let mut n = 0;
     while n < buf.len() {
@@ -37,7 +36,7 @@ fn read_all(fd: i32, name: &[u8], buf: &mut [u8]) -> FileAnswer
 // Reads a file to the front of a buffer, until it ends or the buffer is full. So a buffer that is a byte longer than a file may be tells
 // one that is too long.
 pub fn read_file(name: &[u8], buf: &mut [u8]) -> FileAnswer
-    ensures { Within result (left buf) }
+    ensures { Within result buf.new }
 {
     let fd = os::open_read(name);
     if fd < 0 {

@@ -1,12 +1,13 @@
 // What the programs that go by file names share: arguments, numbers in them, the extension of a name, a file read whole, a file
 // replaced, and what is said on standard error.
+#![tactic(auto)]
+
 mod files;
 mod names;
 mod numbers;
 mod words;
 
 ghost use Rattle.io.specs.Counts.{IsPrefixLen};
-ghost use Rattle.rules.specs.Promises.{left};
 
 pub use files::{read_file, replace_file};
 pub use names::extension;
@@ -14,21 +15,21 @@ pub use numbers::number_in;
 pub use words::{refused, usage};
 
 // An argument at the front of a buffer: its length, and whether all of it is there.
-#[derive(Drop)]
+#[derive(Clone, Copy)]
 pub struct ArgumentAnswer {
     pub len: usize,
     pub whole: bool,
 }
 
 // A number that an argument gives, or that it gives none of 32 signed bits.
-#[derive(Drop)]
+#[derive(Clone, Copy)]
 pub enum NumberAnswer {
     Number(i32),
     Wrong,
 }
 
 // How many bytes of a file were read, or that reading failed, which has been told.
-#[derive(Drop)]
+#[derive(Clone, Copy)]
 pub enum FileAnswer {
     Read(usize),
     Failed,
@@ -36,7 +37,7 @@ pub enum FileAnswer {
 
 // Argument i, of which there is nothing if it is missing or longer than the buffer. The program's own name is argument 0.
 pub fn argument(i: usize, buf: &mut [u8]) -> ArgumentAnswer
-    ensures { IsPrefixLen result.len (left buf) }
+    ensures { IsPrefixLen result.len buf.new }
 {
     let len = os::arg(i, buf);
     ArgumentAnswer {

@@ -1,13 +1,12 @@
 // Parts of a file's name, and a name for a new file.
 ghost use Rattle.std.specs.Prelude.{◌≡◌, ◌≤◌, eqb, length};
 ghost use Rattle.io.specs.Counts.{IsPrefixLen};
-ghost use Rattle.rules.specs.Promises.{was, left};
 ghost use Rattle.rules.specs.Vocabulary.{last_where};
 ghost use Rattle.command_line.specs.Names.{up_to, after_last_dot};
 
 // How many bytes a name has up to the last `b`, with that one; 0 if there is none.
 fn up_to_last(name: &[u8], b: u8) -> usize
-    ensures { (result ≤ length (was name)) × (result ≡ up_to (last_where (eqb b) (was name))) }
+    ensures { (result ≤ length name.now) × (result ≡ up_to (last_where (eqb b) name.now)) }
 {
     let mut n = name.len();
     while 0 < n {
@@ -21,7 +20,7 @@ fn up_to_last(name: &[u8], b: u8) -> usize
 
 // What follows the last dot, as a part of the name; nothing if there is no dot.
 pub fn extension(name: &[u8]) -> &[u8]
-    ensures { result.now ≡ after_last_dot (was name) }
+    ensures { result.now ≡ after_last_dot name.now }
 {
     let n = up_to_last(name, b'.');
     if n == 0 {
@@ -33,7 +32,7 @@ pub fn extension(name: &[u8]) -> &[u8]
 // Copies text to a buffer from a place on, as far as there is room, and answers the next place.
 fn put(to: &mut [u8], at: usize, text: &[u8]) -> usize
     requires { at ≤ length to.old }
-    ensures { IsPrefixLen result (left to) }
+    ensures { IsPrefixLen result to.new }
 {
     let mut n = at;
     let mut i = 0;
@@ -64,7 +63,7 @@ fn to_letters(bytes: &mut [u8]) {
 // Puts a name that no file should have into a buffer, and answers its length: the folder of a file, `part-` and 16 random letters. 0 if
 // the system gives no random bytes. A name that has no room fills the buffer.
 pub fn new_name(beside: &[u8], to: &mut [u8]) -> usize
-    ensures { IsPrefixLen result (left to) }
+    ensures { IsPrefixLen result to.new }
 {
     let mut random = [0u8; 16];
     if libc::getentropy(&mut random) < 0 {

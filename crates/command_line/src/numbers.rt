@@ -1,13 +1,12 @@
 // A number of 32 signed bits that an argument gives.
 ghost use Rattle.std.specs.Prelude.{◌≡◌, ◌&&◌, ◌+◌, ◌-◌, ◌*◌, ◌^◌, ◌≤◌, leb};
-ghost use Rattle.rules.specs.Promises.{was};
 ghost use Rattle.rules.specs.Vocabulary.{pick};
 ghost use Rattle.command_line.specs.Numbers.{is_digit, decimal_from, digits_up_to, from_zero, below_zero, number_in};
 
 use super::NumberAnswer;
 
 // The number that digits make up to a bound, or that they make none.
-#[derive(Drop)]
+#[derive(Clone, Copy)]
 enum Digits {
     Make(u64),
     Wrong,
@@ -34,7 +33,7 @@ fn with_digit(n: u64, b: u8, most: u64) -> Digits
 // The number of a text of digits. It only grows, so one that passes the bound ends the loop.
 fn digits_up_to(text: &[u8], most: u64) -> Digits
     requires { most ≤ 2 ^ 31 }
-    ensures { result ≡ pick (digits_up_to most (was text)) (Digits.Make (decimal_from 0 (was text))) Digits.Wrong }
+    ensures { result ≡ pick (digits_up_to most text.now) (Digits.Make (decimal_from 0 text.now)) Digits.Wrong }
 {
     if text.len() == 0 {
         return Digits::Wrong;
@@ -54,7 +53,7 @@ fn digits_up_to(text: &[u8], most: u64) -> Digits
 
 // Digits alone.
 fn from_zero(text: &[u8]) -> NumberAnswer
-    ensures { result ≡ from_zero (was text) }
+    ensures { result ≡ from_zero text.now }
 {
     let made = digits_up_to(text, 2147483647);
     match made {
@@ -65,7 +64,7 @@ fn from_zero(text: &[u8]) -> NumberAnswer
 
 // Digits that a minus sign stood before.
 fn below_zero(text: &[u8]) -> NumberAnswer
-    ensures { result ≡ below_zero (was text) }
+    ensures { result ≡ below_zero text.now }
 {
     let made = digits_up_to(text, 2147483648);
     match made {
@@ -76,7 +75,7 @@ fn below_zero(text: &[u8]) -> NumberAnswer
 
 // Digits, behind a minus sign if the number is below zero.
 pub fn number_in(text: &[u8]) -> NumberAnswer
-    ensures { result ≡ number_in (was text) }
+    ensures { result ≡ number_in text.now }
 {
     if text.len() == 0 {
         return NumberAnswer::Wrong;

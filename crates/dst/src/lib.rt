@@ -1,5 +1,7 @@
 // DST: the header, and whole files.
 // A port of src/formats/dst.rs of zigzag, changed.
+#![tactic(auto)]
+
 ghost use Rattle.std.specs.Prelude.{◌≡◌, false, ◌+◌, ◌-◌, ◌≤◌, eqb, pos, nat_abs, length, get_or, replicate};
 ghost use Rattle.std.specs.Int.Signed.{non_neg};
 ghost use Rattle.rules.specs.Files.{write_answer};
@@ -7,7 +9,7 @@ ghost use Rattle.rules.specs.Vocabulary.{pick, count, padded, right};
 ghost use Rattle.rules.specs.Lists.{commands, op_of, is_trim, dst_name};
 ghost use Rattle.rules.specs.Dst.{line, signed_right, dst_text, dst_file};
 ghost use Rattle.rules.specs.Refusals.{step_too_long};
-ghost use Rattle.rules.specs.Promises.{was, left, Wrote};
+ghost use Rattle.rules.specs.Promises.{Wrote};
 ghost use Rattle.rules.specs.declared.Extension.TheVariants.{Of};
 ghost use Rattle.rules.specs.declared.Format.TheVariants.{Dst};
 ghost use Rattle.laws.specs.Buffers.{Puts};
@@ -56,7 +58,7 @@ fn put_signed(a: u8, b: u8, z: i64, out: &mut [u8], at: usize) -> usize
 // `LA:`, the label.
 fn put_label(name: &[u8], out: &mut [u8], at: usize) -> usize
     requires { at + 20 ≤ length out.old }
-    ensures { Puts out at result (line 0x4C 0x41 (padded 16 (dst_name (was name)))) }
+    ensures { Puts out at result (line 0x4C 0x41 (padded 16 (dst_name name.now))) }
 {
     let text = put3(out, at, 0x4C, 0x41, 0x3A);
     let end = put_name(name, 0x20, 0x7F, 16, out, text);
@@ -116,7 +118,7 @@ fn is_trim(kind: u8) -> bool
 
 // How many commands trim.
 fn trims(xs: &[i32], ys: &[i32], kinds: &[u8]) -> usize
-    ensures { (result ≡ count trimming (commands (was xs) (was ys) (was kinds))) × (result ≤ length (was kinds)) }
+    ensures { (result ≡ count trimming (commands xs.now ys.now kinds.now)) × (result ≤ length kinds.now) }
 {
     let n = list_len(xs, ys, kinds);
     let mut found = 0;
@@ -133,7 +135,7 @@ fn trims(xs: &[i32], ys: &[i32], kinds: &[u8]) -> usize
 // The last of n places on one axis; 0 where there is none.
 fn last(zs: &[i32], n: usize) -> i32
     requires { n ≤ length zs.now }
-    ensures { result ≡ pick (eqb n 0) (pos 0) (get_or (was zs) (n - 1) (pos 0)) }
+    ensures { result ≡ pick (eqb n 0) (pos 0) (get_or zs.now (n - 1) (pos 0)) }
 {
     if n == 0 {
         return 0;
@@ -144,7 +146,7 @@ fn last(zs: &[i32], n: usize) -> i32
 // The 125 bytes of text.
 fn put_text_of(name: &[u8], xs: &[i32], ys: &[i32], kinds: &[u8], out: &mut [u8]) -> usize
     requires { (length kinds.now ≤ 65535) × (125 ≤ length out.old) }
-    ensures { Puts out 0 result (dst_text (was name) (commands (was xs) (was ys) (was kinds))) }
+    ensures { Puts out 0 result (dst_text name.now (commands xs.now ys.now kinds.now)) }
 {
     let n = list_len(xs, ys, kinds);
     let records = n + 2 * trims(xs, ys, kinds);
@@ -169,7 +171,7 @@ fn put_blanks(out: &mut [u8], at: usize) -> usize
 fn put_file(name: &[u8], xs: &[i32], ys: &[i32], kinds: &[u8], out: &mut [u8]) -> usize
     requires kinds_len_bound { (length kinds.now ≤ 65535) × (step_too_long Dst (commands xs.now ys.now kinds.now) ≡ false) }
     requires kinds_in_bounds { length (dst_file name.now (commands xs.now ys.now kinds.now)) ≤ length out.old }
-    ensures { Puts out 0 result (dst_file (was name) (commands (was xs) (was ys) (was kinds))) }
+    ensures { Puts out 0 result (dst_file name.now (commands xs.now ys.now kinds.now)) }
 {
     let blanks = put_text_of(name, xs, ys, kinds, out);
     let records = put_blanks(out, blanks);
@@ -179,7 +181,7 @@ fn put_file(name: &[u8], xs: &[i32], ys: &[i32], kinds: &[u8], out: &mut [u8]) -
 // The file, or refusal 11.
 fn write_accepted(name: &[u8], xs: &[i32], ys: &[i32], kinds: &[u8], out: &mut [u8]) -> WriteAnswer
     requires { (length kinds.now ≤ 65535) × (step_too_long Dst (commands xs.now ys.now kinds.now) ≡ false) }
-    ensures { Answered (write_answer 0) (dst_file (was name) (commands (was xs) (was ys) (was kinds))) (was out) (left out) result }
+    ensures { Answered (write_answer 0) (dst_file name.now (commands xs.now ys.now kinds.now)) out.old out.new result }
 {
     let n = DST_HEADER + stream_len(Stream::Dst, xs, ys, kinds);
     if out.len() < n {
@@ -197,7 +199,7 @@ pub fn dst_from_stream(
     threads: &[u8],
     out: &mut [u8],
 ) -> WriteAnswer
-    ensures { Wrote (Of Dst) (was name) (was xs) (was ys) (was kinds) (was threads) (was out) (left out) result }
+    ensures { Wrote (Of Dst) name.now xs.now ys.now kinds.now threads.now out.old out.new result }
 {
     let checked = check_list(Format::Dst, xs, ys, kinds, threads);
     match checked {

@@ -1,8 +1,9 @@
 // Bytes, numbers and texts into a caller-provided buffer: each function puts its bytes from `at` on and answers the place behind them.
 // A port of src/formats/pes.rs and src/formats/dst.rs of zigzag, changed.
+#![tactic(auto)]
+
 ghost use Rattle.std.specs.Prelude.{◌≡◌, ◌&&◌, [], ◌∷◌, ℕ, ◌+◌, ◌≤◌, ◌<◌, leb, ltb, nat_abs, ◌-ℤ◌, length, take, replicate};
 ghost use Rattle.rules.specs.Vocabulary.{keep, bits_of, little, digit_at, padded, right};
-ghost use Rattle.rules.specs.Promises.{was};
 ghost use Rattle.laws.specs.Buffers.{Puts};
 
 use geom::span;
@@ -98,7 +99,7 @@ pub fn low16(z: i32) -> usize
 
 pub fn put_text(out: &mut [u8], at: usize, text: &[u8]) -> usize
     requires { at + length text.now ≤ length out.old }
-    ensures { Puts out at result (was text) }
+    ensures { Puts out at result text.now }
 {
     let mut i = 0;
     let mut to = at;
@@ -136,7 +137,7 @@ fn stays(b: u8, low: u8, high: u8) -> bool
 // Of a name the first `most` bytes that are from `low` to before `high`, filled with blanks to 16 bytes.
 pub fn put_name(name: &[u8], low: u8, high: u8, most: usize, out: &mut [u8], at: usize) -> usize
     requires { (most ≤ 16) × (at + 16 ≤ length out.old) }
-    ensures { Puts out at result (padded 16 (take most (keep (λ (b : ℕ). leb low b && ltb b high) (was name)))) }
+    ensures { Puts out at result (padded 16 (take most (keep (λ (b : ℕ). leb low b && ltb b high) name.now))) }
 {
     let fill = 16 - most;
     let mut left = most;

@@ -1,11 +1,13 @@
 // EXP: the commands' bytes and nothing else.
 // A port of src/formats/more.rs of zigzag, changed.
+#![tactic(auto)]
+
 ghost use Rattle.std.specs.Prelude.{◌≡◌, false, [], ◌≤◌, length};
 ghost use Rattle.rules.specs.Files.{write_answer};
 ghost use Rattle.rules.specs.Lists.{commands};
 ghost use Rattle.rules.specs.Exp.{exp_file};
 ghost use Rattle.rules.specs.Refusals.{step_too_long};
-ghost use Rattle.rules.specs.Promises.{was, left, Wrote};
+ghost use Rattle.rules.specs.Promises.{Wrote};
 ghost use Rattle.rules.specs.declared.Extension.TheVariants.{Of};
 ghost use Rattle.rules.specs.declared.Format.TheVariants.{Exp};
 ghost use Rattle.emit.specs.Answered.{Answered};
@@ -18,7 +20,7 @@ use write_refusals::check_list;
 // The file, or refusal 11.
 fn write_accepted(xs: &[i32], ys: &[i32], kinds: &[u8], out: &mut [u8]) -> WriteAnswer
     requires { (length kinds.now ≤ 65535) × (step_too_long Exp (commands xs.now ys.now kinds.now) ≡ false) }
-    ensures { Answered (write_answer 0) (exp_file (commands (was xs) (was ys) (was kinds))) (was out) (left out) result }
+    ensures { Answered (write_answer 0) (exp_file (commands xs.now ys.now kinds.now)) out.old out.new result }
 {
     let n = stream_len(Stream::Exp, xs, ys, kinds);
     if out.len() < n {
@@ -35,7 +37,7 @@ pub fn write_exp(
     threads: &[u8],
     out: &mut [u8],
 ) -> WriteAnswer
-    ensures { Wrote (Of Exp) [] (was xs) (was ys) (was kinds) (was threads) (was out) (left out) result }
+    ensures { Wrote (Of Exp) [] xs.now ys.now kinds.now threads.now out.old out.new result }
 {
     let checked = check_list(Format::Exp, xs, ys, kinds, threads);
     match checked {

@@ -1,8 +1,10 @@
 // The export of a job: the name, a field for each thread, and the commands, 1,000 to a field.
+#![tactic(auto)]
+
 ghost use Rattle.std.specs.Prelude.{◌≡◌, ◌+◌, ◌-◌, ◌*◌, ◌/◌, ◌≤◌, min, nat_abs, length};
 ghost use Rattle.rules.specs.Lists.{commands};
 ghost use Rattle.rules.specs.Jobs.{field_of, row_of_cmd, thread_fields, command_fields, job_of, export_answer};
-ghost use Rattle.rules.specs.Promises.{was, left, Exported};
+ghost use Rattle.rules.specs.Promises.{Exported};
 ghost use Rattle.laws.specs.Buffers.{Puts};
 ghost use Rattle.emit.specs.Answered.{Answered};
 ghost use Rattle.export_job.specs.Lists.{Known, field_between, job_length};
@@ -15,7 +17,7 @@ use write_refusals::check_commands;
 // A field of any content that two bytes count.
 fn put_field(tag: u8, content: &[u8], out: &mut [u8], at: usize) -> usize
     requires { at + (3 + length content.now) ≤ length out.old }
-    ensures { Puts out at result (field_of tag (was content)) }
+    ensures { Puts out at result (field_of tag content.now) }
 {
     let len = put(out, at, tag);
     let start = put_short(out, len, content.len());
@@ -25,7 +27,7 @@ fn put_field(tag: u8, content: &[u8], out: &mut [u8], at: usize) -> usize
 // A field for each thread.
 fn put_threads(threads: &[u8], out: &mut [u8], at: usize) -> usize
     requires { at + length (thread_fields threads.now) ≤ length out.old }
-    ensures { Puts out at result (thread_fields (was threads)) }
+    ensures { Puts out at result (thread_fields threads.now) }
 {
     let mut to = at;
     let mut i = 0;
@@ -61,7 +63,7 @@ fn put_commands(
     requires known { Known xs.now ys.now kinds.now }
     requires i_le_e { (i ≤ e) × ((e ≤ i + 1000) × (e ≤ length (commands xs.now ys.now kinds.now))) }
     requires i_in_bounds { at + (3 + 5 * (e - i)) ≤ length out.old }
-    ensures { Puts out at result (field_between (was xs) (was ys) (was kinds) i e) }
+    ensures { Puts out at result (field_between xs.now ys.now kinds.now i e) }
 {
     let len = 5 * (e - i);
     let head = put(out, at, 3);
@@ -89,7 +91,7 @@ fn field_end(i: usize, n: usize) -> usize
 fn put_list(xs: &[i32], ys: &[i32], kinds: &[u8], out: &mut [u8], at: usize) -> usize
     requires known { Known xs.now ys.now kinds.now }
     requires kinds_in_bounds { at + length (command_fields (commands xs.now ys.now kinds.now)) ≤ length out.old }
-    ensures { Puts out at result (command_fields (commands (was xs) (was ys) (was kinds))) }
+    ensures { Puts out at result (command_fields (commands xs.now ys.now kinds.now)) }
 {
     let n = list_len(xs, ys, kinds);
     let mut to = at;
@@ -120,7 +122,7 @@ fn export_accepted(
     out: &mut [u8],
 ) -> ExportAnswer
     requires { Known xs.now ys.now kinds.now × ((length name.now ≤ 64) × (length threads.now / 3 ≤ 255)) }
-    ensures { Answered export_answer (job_of (was name) (commands (was xs) (was ys) (was kinds)) (was threads)) (was out) (left out) result }
+    ensures { Answered export_answer (job_of name.now (commands xs.now ys.now kinds.now) threads.now) out.old out.new result }
 {
     let n = job_len(name.len(), list_len(xs, ys, kinds), threads.len());
     if out.len() < n {
@@ -142,7 +144,7 @@ pub fn export_job(
     threads: &[u8],
     out: &mut [u8],
 ) -> ExportAnswer
-    ensures { Exported (was name) (was xs) (was ys) (was kinds) (was threads) (was out) (left out) result }
+    ensures { Exported name.now xs.now ys.now kinds.now threads.now out.old out.new result }
 {
     if LONGEST_NAME < name.len() {
         return ExportAnswer::NotExported(Refusal::BadLength);

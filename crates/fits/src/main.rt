@@ -1,5 +1,7 @@
 // fits FILE LEFT RIGHT TOP BOTTOM: prints `yes` if every place of every run of the file has x from LEFT to RIGHT and y from TOP to BOTTOM,
 // edges included, and else `no`. The numbers are tenths of a millimetre. What is refused or fails is told on standard error.
+#![tactic(auto)]
+
 use command_line::{
     FileAnswer, NumberAnswer, argument, extension, number_in, read_file, refused, usage,
 };
@@ -8,7 +10,7 @@ use libc::STDOUT_FILENO;
 use rules::{Extension, FitsAnswer, Hoop, Refusal};
 
 // The hoop that the arguments give, or that one of them is no number.
-#[derive(Drop)]
+#[derive(Clone, Copy)]
 enum HoopAnswer {
     Given(Hoop),
     Wrong,

@@ -1,10 +1,11 @@
 // What every format uses: extensions, operations, bounds of a list, colours and the choice of a thread.
 // A port of src/formats/mod.rs of zigzag, changed.
+#![tactic(auto)]
+
 ghost use Rattle.std.specs.Prelude.{◌≡◌, true, false, [], ◌∷◌, ◌≤◌, min, max, length};
 ghost use Rattle.rules.specs.Lists.{op_of, commands, min_z, max_z};
 ghost use Rattle.rules.specs.Refusals.{lower, named, extension_of, place_outside};
 ghost use Rattle.rules.specs.Choices.{half_to_even, gap, weighed, distance, same_color, away, nearest_answer, pec_palette};
-ghost use Rattle.rules.specs.Promises.{was};
 ghost use Rattle.geom.specs.Frames.{bounds_of};
 ghost use Rattle.formats.specs.Closer.{takes_over, closer_of};
 
@@ -39,7 +40,7 @@ fn lower(b: u8) -> u8
 
 // Whether an extension is three given small letters, without regard to case.
 fn is_named(ext: &[u8], a: u8, b: u8, c: u8) -> bool
-    ensures { result ≡ named (was ext) (a ∷ b ∷ c ∷ []) }
+    ensures { result ≡ named ext.now (a ∷ b ∷ c ∷ []) }
 {
     if ext.len() != 3 {
         return false;
@@ -55,7 +56,7 @@ fn is_named(ext: &[u8], a: u8, b: u8, c: u8) -> bool
 
 // The format that an extension names.
 pub fn extension_of(ext: &[u8]) -> Extension
-    ensures { result ≡ extension_of (was ext) }
+    ensures { result ≡ extension_of ext.now }
 {
     if is_named(ext, 0x70, 0x65, 0x73) {
         return Extension::Of(Format::Pes);
@@ -86,7 +87,7 @@ fn smaller(a: usize, b: usize) -> usize
 
 // How many commands three slices hold.
 pub fn list_len(xs: &[i32], ys: &[i32], kinds: &[u8]) -> usize
-    ensures { result ≡ length (commands (was xs) (was ys) (was kinds)) }
+    ensures { result ≡ length (commands xs.now ys.now kinds.now) }
 {
     let n = smaller(xs.len(), ys.len());
     smaller(n, kinds.len())
@@ -94,7 +95,7 @@ pub fn list_len(xs: &[i32], ys: &[i32], kinds: &[u8]) -> usize
 
 // The bounds of every command's place; (0, 0) alone where there is none.
 pub fn stream_bounds(xs: &[i32], ys: &[i32], kinds: &[u8]) -> Bounds
-    ensures { result ≡ bounds_of (commands (was xs) (was ys) (was kinds)) }
+    ensures { result ≡ bounds_of (commands xs.now ys.now kinds.now) }
 {
     let n = list_len(xs, ys, kinds);
     if n == 0 {
@@ -124,7 +125,7 @@ fn greatest(a: i16, b: i16) -> i16
 // The same where every place lies from -16,000 to 16,000, in numbers of 16 bits.
 pub fn near_bounds(xs: &[i32], ys: &[i32], kinds: &[u8]) -> Bounds
     requires { place_outside (commands xs.now ys.now kinds.now) ≡ false }
-    ensures { result ≡ bounds_of (commands (was xs) (was ys) (was kinds)) }
+    ensures { result ≡ bounds_of (commands xs.now ys.now kinds.now) }
 {
     let n = list_len(xs, ys, kinds);
     if n == 0 {
@@ -214,7 +215,7 @@ pub fn larger(d: u32, e: u32) -> u32
 }
 
 // Where what was put ends, and the largest distance between a thread and the chart's own colour of the entry put for it.
-#[derive(Drop)]
+#[derive(Clone, Copy)]
 pub struct Matched {
     pub end: usize,
     pub distance: u32,

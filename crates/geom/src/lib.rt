@@ -1,17 +1,19 @@
 // Places and bounds, in tenths of a millimetre; +y points down.
 // A port of src/geom.rs of zigzag, changed.
+#![tactic(auto)]
+
 ghost use Rattle.std.specs.Prelude.{◌≡◌, ◌-ℤ◌};
 ghost use Rattle.std.specs.Int.Signed.{lt_z};
 ghost use Rattle.rules.specs.Lists.{min_z, max_z};
 ghost use Rattle.geom.specs.Frames.{place, frame, nothing, added, width_of, height_of};
 
-#[derive(Drop)]
+#[derive(Clone, Copy)]
 pub struct P {
     pub x: i32,
     pub y: i32,
 }
 
-#[derive(Drop)]
+#[derive(Clone, Copy)]
 pub struct Bounds {
     pub min: P,
     pub max: P,

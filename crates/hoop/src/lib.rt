@@ -1,8 +1,9 @@
 // Whether what a file sews lies in a hoop, without a buffer: every place is looked at as it is read, up to the first that is outside.
+#![tactic(auto)]
+
 ghost use Rattle.std.specs.Prelude.{◌≡◌, pos};
 ghost use Rattle.rules.specs.Answers.{places};
 ghost use Rattle.rules.specs.Hoop.{all_in_hoop, fits_told};
-ghost use Rattle.rules.specs.Promises.{was};
 ghost use Rattle.rules.specs.Refusals.{extension_of};
 ghost use Rattle.rules.specs.Vocabulary.{pick};
 ghost use Rattle.rules.specs.declared.Extension.TheVariants.{Of};
@@ -19,7 +20,7 @@ use rules::{DST_HEADER, Extension, FitsAnswer, Format, Hoop, Refusal};
 // A file that is not refused, by what its opening gave.
 fn fits_part(head: Head, h: Hoop, file: &[u8]) -> bool
     requires { Opened head file.now }
-    ensures { result ≡ all_in_hoop h (places (pos 0) (pos 0) 0 (events_by head (was file))) }
+    ensures { result ≡ all_in_hoop h (places (pos 0) (pos 0) 0 (events_by head file.now)) }
 {
     match head {
         Head::Pec { start, .. } => fits_records(Row::Pec, h, rest(file, start + 528)),
@@ -41,7 +42,7 @@ fn answer(inside: bool) -> FitsAnswer
 
 // A file of format f.
 fn fits_stitch_file(f: Format, h: Hoop, file: &[u8]) -> FitsAnswer
-    ensures { result ≡ fits_told (Of f) (was file) h }
+    ensures { result ≡ fits_told (Of f) file.now h }
 {
     let found = front(f, file);
     match found {
@@ -53,7 +54,7 @@ fn fits_stitch_file(f: Format, h: Hoop, file: &[u8]) -> FitsAnswer
 // Whether every place of every run of a file has x from left to right and y from top to bottom, edges included; or why the file is
 // refused, by every refusal of reading but 11. A file without runs is a yes.
 pub fn fits(ext: &[u8], file: &[u8], left: i32, right: i32, top: i32, bottom: i32) -> FitsAnswer
-    ensures { result ≡ fits_told (extension_of (was ext)) (was file) (record { left = left; right = right; top = top; bottom = bottom }) }
+    ensures { result ≡ fits_told (extension_of ext.now) file.now (record { left = left; right = right; top = top; bottom = bottom }) }
 {
     let named = extension_of(ext);
     let Extension::Of(f) = named else {

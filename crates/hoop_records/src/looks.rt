@@ -7,7 +7,7 @@ use read_builder::sum;
 use rules::Hoop;
 
 // The place; whether a run is open; and where the next record stands.
-#[derive(Drop)]
+#[derive(Clone, Copy)]
 pub struct Look {
     pub x: i32,
     pub y: i32,
@@ -16,7 +16,7 @@ pub struct Look {
 }
 
 // That, or a place has been seen outside the hoop.
-#[derive(Drop)]
+#[derive(Clone, Copy)]
 pub enum Seen {
     On(Look),
     Outside,

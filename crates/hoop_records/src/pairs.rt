@@ -1,7 +1,6 @@
 // EXP and JEF: two stitches, or one record, in a turn.
 ghost use Rattle.std.specs.Prelude.{◌≡◌, ◌+◌, ◌≤◌, length, get_or};
 ghost use Rattle.rules.specs.Hoop.{all_in_hoop};
-ghost use Rattle.rules.specs.Promises.{was};
 ghost use Rattle.read_records.specs.Firsts.{first_record_of, pair_row};
 ghost use Rattle.read_records.specs.Tables.{Kinds};
 ghost use Rattle.read_passes.specs.Told.{places_in};
@@ -20,7 +19,7 @@ fn look_control(jef: bool, h: Hoop, w: Look, table: &[u8], bytes: &[u8]) -> Seen
     requires at_in_bounds { w.at + 4 ≤ length bytes.now }
     requires at_value { get_or bytes.now w.at 0 ≡ 0x80 }
     requires looking { Looking bytes.now w }
-    ensures { Looks (pair_row jef) h (was bytes) w result }
+    ensures { Looks (pair_row jef) h bytes.now w result }
 {
     let at = w.at;
     let c = bytes[at + 1];
@@ -40,7 +39,7 @@ fn look_pair(jef: bool, h: Hoop, w: Look, table: &[u8], bytes: &[u8]) -> Seen
     requires kinds { Kinds jef table.now }
     requires at_in_bounds { w.at + 4 ≤ length bytes.now }
     requires looking { Looking bytes.now w }
-    ensures { Looks (pair_row jef) h (was bytes) w result }
+    ensures { Looks (pair_row jef) h bytes.now w result }
 {
     let at = w.at;
     if bytes[at] == 0x80 {
@@ -56,7 +55,7 @@ fn look_pair(jef: bool, h: Hoop, w: Look, table: &[u8], bytes: &[u8]) -> Seen
 
 pub fn fits_pairs(jef: bool, h: Hoop, bytes: &[u8]) -> bool
     requires { length bytes.now ≤ 2097152 }
-    ensures { result ≡ all_in_hoop h (places_in (first_record_of (pair_row jef)) (was bytes)) }
+    ensures { result ≡ all_in_hoop h (places_in (first_record_of (pair_row jef)) bytes.now) }
 {
     let table = kinds(jef);
     let mut w = look_from(0, 0);

@@ -1,6 +1,5 @@
 // Record by record.
 ghost use Rattle.std.specs.Prelude.{◌≡◌, ◌<◌, length};
-ghost use Rattle.rules.specs.Promises.{was};
 ghost use Rattle.read_passes.specs.Walks.{events_from};
 ghost use Rattle.hoop_records.specs.Looks.{fits_from};
 ghost use Rattle.hoop_records.specs.Rows.{Looking, Looks};
@@ -13,7 +12,7 @@ use rules::{Hoop, Record};
 fn look_record(f: Row, h: Hoop, w: Look, bytes: &[u8]) -> Seen
     requires at_in_bounds { w.at < length bytes.now }
     requires looking { Looking bytes.now w }
-    ensures { Looks f h (was bytes) w result }
+    ensures { Looks f h bytes.now w result }
 {
     match record_at(f, bytes, w.at) {
         Record::StitchBy { dx, dy, len } => sew(h, w, dx, dy, len),
@@ -26,7 +25,7 @@ fn look_record(f: Row, h: Hoop, w: Look, bytes: &[u8]) -> Seen
 // One record after the other, from a look on, to the end.
 pub fn fits_rest(f: Row, h: Hoop, bytes: &[u8], first: Look) -> bool
     requires { Looking bytes.now first }
-    ensures { result ≡ fits_from h first (events_from f (was bytes) first.at) }
+    ensures { result ≡ fits_from h first (events_from f bytes.now first.at) }
 {
     let mut w = first;
     while w.at < bytes.len() {

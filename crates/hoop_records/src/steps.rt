@@ -1,7 +1,6 @@
 // PES and PEC: two stitches of one kind, or one record, in a turn.
 ghost use Rattle.std.specs.Prelude.{◌≡◌, true, ◌+◌, ◌≤◌, length};
 ghost use Rattle.rules.specs.Hoop.{all_in_hoop};
-ghost use Rattle.rules.specs.Promises.{was};
 ghost use Rattle.read_records.specs.Firsts.{first_record_of};
 ghost use Rattle.read_records.specs.Tables.{PecSteps};
 ghost use Rattle.read_records.specs.Words.{four_at, eight_at, masked};
@@ -25,7 +24,7 @@ fn look_short(steps: &[i32], h: Hoop, w: Look, bytes: &[u8]) -> Seen
     requires at_in_bounds { w.at + 8 ≤ length bytes.now }
     requires at_value { masked 0x80808080 0 (eight_at bytes.now w.at) ≡ true }
     requires looking { Looking bytes.now w }
-    ensures { Looks Pec h (was bytes) w result }
+    ensures { Looks Pec h bytes.now w result }
 {
     let at = w.at;
     let dx = first_of(steps, bytes[at]);
@@ -41,7 +40,7 @@ fn look_long(steps: &[i32], h: Hoop, w: Look, bytes: &[u8]) -> Seen
     requires at_in_bounds { w.at + 8 ≤ length bytes.now }
     requires at_value { masked 0x00B000B000B000B0 0x0080008000800080 (eight_at bytes.now w.at) ≡ true }
     requires looking { Looking bytes.now w }
-    ensures { Looks Pec h (was bytes) w result }
+    ensures { Looks Pec h bytes.now w result }
 {
     let at = w.at;
     let dx = pec_step(steps, bytes[at], bytes[at + 1]);
@@ -57,7 +56,7 @@ fn look_short_long(steps: &[i32], h: Hoop, w: Look, bytes: &[u8]) -> Seen
     requires at_in_bounds { w.at + 8 ≤ length bytes.now }
     requires at_value { masked 0x000000B08000B080 0x0000008000008000 (eight_at bytes.now w.at) ≡ true }
     requires looking { Looking bytes.now w }
-    ensures { Looks Pec h (was bytes) w result }
+    ensures { Looks Pec h bytes.now w result }
 {
     let at = w.at;
     let dx = first_of(steps, bytes[at]);
@@ -73,7 +72,7 @@ fn look_word(steps: &[i32], h: Hoop, w: Look, bytes: &[u8], v: u32) -> Seen
     requires at_in_bounds { w.at + 8 ≤ length bytes.now }
     requires v_value { v ≡ four_at bytes.now w.at }
     requires looking { Looking bytes.now w }
-    ensures { Looks Pec h (was bytes) w result }
+    ensures { Looks Pec h bytes.now w result }
 {
     if v % 65536 == 0x00FF {
         return Seen::On(pass_to(w, bytes.len()));
@@ -95,7 +94,7 @@ fn look_steps(steps: &[i32], h: Hoop, w: Look, bytes: &[u8]) -> Seen
     requires pec_steps { PecSteps steps.now }
     requires at_in_bounds { w.at + 8 ≤ length bytes.now }
     requires looking { Looking bytes.now w }
-    ensures { Looks Pec h (was bytes) w result }
+    ensures { Looks Pec h bytes.now w result }
 {
     let v = eight(bytes, w.at);
     if two_short(v) {
@@ -112,7 +111,7 @@ fn look_steps(steps: &[i32], h: Hoop, w: Look, bytes: &[u8]) -> Seen
 
 pub fn fits_steps(h: Hoop, bytes: &[u8]) -> bool
     requires { length bytes.now ≤ 2097152 }
-    ensures { result ≡ all_in_hoop h (places_in (first_record_of Pec) (was bytes)) }
+    ensures { result ≡ all_in_hoop h (places_in (first_record_of Pec) bytes.now) }
 {
     let steps = pec_steps();
     let mut w = look_from(0, 0);

@@ -1,7 +1,6 @@
 // DST: one record in a turn.
 ghost use Rattle.std.specs.Prelude.{◌≡◌, true, false, ◌+◌, ◌≤◌, length};
 ghost use Rattle.rules.specs.Hoop.{all_in_hoop};
-ghost use Rattle.rules.specs.Promises.{was};
 ghost use Rattle.read_records.specs.Firsts.{first_record_of};
 ghost use Rattle.read_records.specs.Tables.{DstSteps};
 ghost use Rattle.read_records.specs.declared.Row.TheVariants.{Dst};
@@ -19,7 +18,7 @@ fn look_triple(h: Hoop, w: Look, xs: &[i32], ys: &[i32], bytes: &[u8]) -> Seen
     requires dst_steps { DstSteps false xs.now × DstSteps true ys.now }
     requires at_in_bounds { w.at + 3 ≤ length bytes.now }
     requires looking { Looking bytes.now w }
-    ensures { Looks Dst h (was bytes) w result }
+    ensures { Looks Dst h bytes.now w result }
 {
     let at = w.at;
     let c = bytes[at + 2];
@@ -36,7 +35,7 @@ fn look_triple(h: Hoop, w: Look, xs: &[i32], ys: &[i32], bytes: &[u8]) -> Seen
 
 pub fn fits_triples(h: Hoop, bytes: &[u8]) -> bool
     requires { length bytes.now ≤ 2097152 }
-    ensures { result ≡ all_in_hoop h (places_in (first_record_of Dst) (was bytes)) }
+    ensures { result ≡ all_in_hoop h (places_in (first_record_of Dst) bytes.now) }
 {
     let xs = dst_steps(false);
     let ys = dst_steps(true);

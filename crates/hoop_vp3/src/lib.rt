@@ -1,8 +1,9 @@
 // VP3: whether all places of a file without fault are in a hoop, block after block.
+#![tactic(auto)]
+
 ghost use Rattle.std.specs.Prelude.{◌≡◌, false, suc, ◌+◌, ◌≤◌, pos, length, drop};
 ghost use Rattle.rules.specs.Answers.{places};
 ghost use Rattle.rules.specs.Hoop.{all_in_hoop};
-ghost use Rattle.rules.specs.Promises.{was};
 ghost use Rattle.rules.specs.Vp3.{blocks_from, vp3_blocks, stitch_events, events_in, strays, fault_in};
 ghost use Rattle.rules.specs.declared.Verdict.TheVariants.{Accepted};
 ghost use Rattle.read_vp3_fields.specs.Fields.{within};
@@ -20,7 +21,7 @@ use rules::Hoop;
 // One step of any kind.
 fn look_step(h: Hoop, w: Look, bytes: &[u8]) -> Seen
     requires { Looking bytes.now w }
-    ensures { Looks h (was bytes) w result }
+    ensures { Looks h bytes.now w result }
 {
     match step_at(bytes, w.at) {
         Step::Stitch { dx, dy, len } => sew(h, w, dx, dy, len),
@@ -34,7 +35,7 @@ fn look_step(h: Hoop, w: Look, bytes: &[u8]) -> Seen
 fn look_pair(h: Hoop, w: Look, bytes: &[u8]) -> Seen
     requires at_in_bounds { w.at + 4 ≤ length bytes.now }
     requires looking { Looking bytes.now w }
-    ensures { Looks h (was bytes) w result }
+    ensures { Looks h bytes.now w result }
 {
     let at = w.at;
     if bytes[at] == 0x80 {
@@ -51,7 +52,7 @@ fn look_pair(h: Hoop, w: Look, bytes: &[u8]) -> Seen
 // One step after the other, from a look on, to the end.
 fn fits_rest(h: Hoop, bytes: &[u8], first: Look) -> bool
     requires { Looking bytes.now first }
-    ensures { result ≡ fits_from h first (stitch_events (drop first.at (was bytes))) }
+    ensures { result ≡ fits_from h first (stitch_events (drop first.at bytes.now)) }
 {
     let mut w = first;
     while w.at < bytes.len() {
@@ -67,7 +68,7 @@ fn fits_rest(h: Hoop, bytes: &[u8], first: Look) -> bool
 fn fits_stitches(h: Hoop, bytes: &[u8], x: i32, y: i32) -> bool
     requires bytes_len_bound { length bytes.now ≤ 2097152 }
     requires bytes_value { strays x y (stitch_events bytes.now) ≡ false }
-    ensures { result ≡ all_in_hoop h (places x y 0 (stitch_events (was bytes))) }
+    ensures { result ≡ all_in_hoop h (places x y 0 (stitch_events bytes.now)) }
 {
     let mut w = look_from(x, y);
     let end = last_turn(bytes.len(), 4);
@@ -81,7 +82,7 @@ fn fits_stitches(h: Hoop, bytes: &[u8], x: i32, y: i32) -> bool
 }
 
 // Where the next block starts, and where its fields begin.
-#[derive(Drop)]
+#[derive(Clone, Copy)]
 struct Start {
     x: i32,
     y: i32,
@@ -89,7 +90,7 @@ struct Start {
 }
 
 // That, or a place has been seen outside the hoop.
-#[derive(Drop)]
+#[derive(Clone, Copy)]
 enum Passed {
     On(Start),
     Outside,
@@ -98,7 +99,7 @@ enum Passed {
 // One colour block, which n more follow, of a design part that ends at `end`.
 fn fits_block(h: Hoop, file: &[u8], end: usize, n: usize, s: Start) -> Passed
     requires { Ready file.now end (suc n) s }
-    ensures { Passes h (was file) end n s result }
+    ensures { Passes h file.now end n s result }
 {
     let Colored::Of(k) = block_at(file, s.at, end, 0 < n, s.x, s.y) else {
         return Passed::Outside;
@@ -119,7 +120,7 @@ fn fits_block(h: Hoop, file: &[u8], end: usize, n: usize, s: Start) -> Passed
 fn fits_blocks(h: Hoop, file: &[u8], from: usize, end: usize, count: usize) -> bool
     requires from_le_end { (from ≤ end) × ((end ≤ length file.now) × (length file.now ≤ 2097152)) }
     requires end_value { fault_in (blocks_from count (pos 0) (pos 0) (within file.now from end)) ≡ Accepted }
-    ensures { result ≡ all_in_hoop h (places (pos 0) (pos 0) 0 (events_in (blocks_from count (pos 0) (pos 0) (within (was file) from end)))) }
+    ensures { result ≡ all_in_hoop h (places (pos 0) (pos 0) 0 (events_in (blocks_from count (pos 0) (pos 0) (within file.now from end)))) }
 {
     let mut s = Start {
         x: 0,
@@ -141,7 +142,7 @@ fn fits_blocks(h: Hoop, file: &[u8], from: usize, end: usize, count: usize) -> b
 pub fn fits(h: Hoop, file: &[u8]) -> bool
     requires in_bounds { (6 ≤ length file.now) × (length file.now ≤ 2097152) }
     requires file_value { fault_in (vp3_blocks file.now) ≡ Accepted }
-    ensures { result ≡ all_in_hoop h (places (pos 0) (pos 0) 0 (events_in (vp3_blocks (was file)))) }
+    ensures { result ≡ all_in_hoop h (places (pos 0) (pos 0) 0 (events_in (vp3_blocks file.now))) }
 {
     let Design::Of { at, end, count } = design_of(file) else {
         return true;

@@ -1,7 +1,6 @@
 // The second pass over the fields of a job: commands and threads go into the buffers.
 ghost use Rattle.std.specs.Prelude.{◌≡◌, ◌+◌, ◌≤◌, ◌<◌, length};
 ghost use Rattle.rules.specs.Jobs.{rows_of, job_fields, fault_of};
-ghost use Rattle.rules.specs.Promises.{was, left};
 ghost use Rattle.rules.specs.declared.Verdict.TheVariants.{Accepted};
 ghost use Rattle.import_job.specs.Fills.{RowRoom, RowsPut, Ready, Fills, Fits, Filled};
 
@@ -9,7 +8,7 @@ use emit::put_text;
 use read_job_fields::{Field, field_at, i16le};
 
 // The tag of the field before, 0 at the front, where the next field begins, and how much stands in the buffers.
-#[derive(Drop)]
+#[derive(Clone, Copy)]
 struct Filler {
     before: u8,
     at: usize,
@@ -20,7 +19,7 @@ struct Filler {
 // The commands of a field's content, from command `from` on: how many there are then.
 fn fill_rows(bytes: &[u8], xs: &mut [i32], ys: &mut [i32], kinds: &mut [u8], from: usize) -> usize
     requires { RowRoom bytes.now from (length xs.old) (length ys.old) (length kinds.old) }
-    ensures { RowsPut (rows_of (was bytes)) from result (was xs) (left xs) (was ys) (left ys) (was kinds) (left kinds) }
+    ensures { RowsPut (rows_of bytes.now) from result xs.old xs.new ys.old ys.new kinds.old kinds.new }
 {
     let mut i = from;
     let mut at = 0;
@@ -46,7 +45,7 @@ fn fill_field(
     threads: &mut [u8],
 ) -> Filler
     requires { Ready job.now f (length xs.old) (length ys.old) (length kinds.old) (length threads.old) }
-    ensures { Fills (was job) f (was xs) (left xs) (was ys) (left ys) (was kinds) (left kinds) (was threads) (left threads) result }
+    ensures { Fills job.now f xs.old xs.new ys.old ys.new kinds.old kinds.new threads.old threads.new result }
 {
     let Field::At { tag, start, end } = field_at(job, f.at, f.before) else {
         return f;
@@ -84,7 +83,7 @@ fn fill_field(
 pub fn fill_job(job: &[u8], xs: &mut [i32], ys: &mut [i32], kinds: &mut [u8], threads: &mut [u8])
     requires job_value { fault_of (job_fields job.now) ≡ Accepted }
     requires fits { Fits job.now (length xs.old) (length ys.old) (length kinds.old) (length threads.old) }
-    ensures { Filled (was job) (was xs) (left xs) (was ys) (left ys) (was kinds) (left kinds) (was threads) (left threads) }
+    ensures { Filled job.now xs.old xs.new ys.old ys.new kinds.old kinds.new threads.old threads.new }
 {
     let mut f = Filler {
         before: 0,

@@ -1,9 +1,11 @@
 // The import of a job: a first pass over its fields finds the first fault, or what the answers hold; a second one fills the buffers.
+#![tactic(auto)]
+
 pub mod fill;
 
 ghost use Rattle.std.specs.Prelude.{◌≡◌, false, ◌+◌, ◌≤◌, ◌<◌, length};
 ghost use Rattle.rules.specs.Jobs.{job_fields, fault_of, job_verdict, job_name_told};
-ghost use Rattle.rules.specs.Promises.{was, left, ImportedOf};
+ghost use Rattle.rules.specs.Promises.{ImportedOf};
 ghost use Rattle.rules.specs.declared.Verdict.TheVariants.{Accepted};
 ghost use Rattle.read_job_tally.specs.Tallies.{Spare};
 ghost use Rattle.import_job.specs.Walks.{content_walk, Stands, Walks, refused_by, end_check, Checks, room_for, NameAt, NameRead};
@@ -17,7 +19,7 @@ use rules::{ImportAnswer, JobCounts, LONGEST_FILE, Refusal, Verdict};
 
 // What has been read of a job: the tag of the field before, 0 at the front, where the next field begins, what the commands came to, and the
 // bytes of threads.
-#[derive(Drop)]
+#[derive(Clone, Copy)]
 struct Walker {
     before: u8,
     at: usize,
@@ -26,14 +28,14 @@ struct Walker {
 }
 
 // That, or why the job is refused.
-#[derive(Drop)]
+#[derive(Clone, Copy)]
 enum Walk {
     On(Walker),
     Not(Refusal),
 }
 
 // How much a job holds, or why it is refused.
-#[derive(Drop)]
+#[derive(Clone, Copy)]
 pub enum Checked {
     Sound(JobCounts),
     Not(Refusal),
@@ -43,7 +45,7 @@ pub enum Checked {
 fn check_content(w: Walker, tag: u8, content: &[u8], end: usize) -> Walk
     requires unknown_value { (w.t.unknown ≡ false) × Spare w.t (length content.now) }
     requires content_bound { w.thread_bytes + length content.now ≤ 4294967295 }
-    ensures { result ≡ content_walk w tag (was content) end }
+    ensures { result ≡ content_walk w tag content.now end }
 {
     let t = w.t;
     if tag == 3 {
@@ -77,7 +79,7 @@ fn check_content(w: Walker, tag: u8, content: &[u8], end: usize) -> Walk
 // The field at a walker's place.
 fn check_field(job: &[u8], w: Walker) -> Walk
     requires { Stands job.now w × (w.at < length job.now) }
-    ensures { Walks (was job) w result }
+    ensures { Walks job.now w result }
 {
     match field_at(job, w.at, w.before) {
         Field::At { tag, start, end } => check_content(w, tag, &job[start..end], end),
@@ -115,7 +117,7 @@ fn check_end(w: Walker) -> Checked
 
 // Refusals 2, 13 and 14 in order of place, and 6 to 9; how much the job holds if there is none of them.
 pub fn check_job(job: &[u8]) -> Checked
-    ensures { Checks (was job) result }
+    ensures { Checks job.now result }
 {
     if LONGEST_FILE < job.len() {
         return Checked::Not(Refusal::FileTooLong);
@@ -162,7 +164,7 @@ pub fn import_job(
     kinds: &mut [u8],
     threads: &mut [u8],
 ) -> ImportAnswer
-    ensures { ImportedOf (was job) (was xs) (was ys) (was kinds) (was threads) (left xs) (left ys) (left kinds) (left threads) result }
+    ensures { ImportedOf job.now xs.old ys.old kinds.old threads.old xs.new ys.new kinds.new threads.new result }
 {
     match check_job(job) {
         Checked::Sound(n) => {
@@ -179,7 +181,7 @@ pub fn import_job(
 // Where the name of a job without fault stands: it is the content of the first field.
 fn name_at(job: &[u8]) -> Span
     requires { fault_of (job_fields job.now) ≡ Accepted }
-    ensures { NameAt (was job) result }
+    ensures { NameAt job.now result }
 {
     let Field::At { start, end, .. } = field_at(job, 0, 0) else {
         return Span { start: 0, len: 0 };
@@ -192,7 +194,7 @@ fn name_at(job: &[u8]) -> Span
 
 // Where the name of a job stands, or why it is refused: every refusal of importing but 11.
 pub fn job_name_answer(job: &[u8]) -> LabelAnswer
-    ensures { NameRead (was job) (job_verdict (was job)) result }
+    ensures { NameRead job.now (job_verdict job.now) result }
 {
     match check_job(job) {
         Checked::Sound(_) => LabelAnswer::Found(name_at(job)),
@@ -202,7 +204,7 @@ pub fn job_name_answer(job: &[u8]) -> LabelAnswer
 
 // The name of a job, as a part of it: empty under every refusal of importing but 11.
 pub fn job_name(job: &[u8]) -> &[u8]
-    ensures { result.now ≡ job_name_told (was job) }
+    ensures { result.now ≡ job_name_told job.now }
 {
     let answer = job_name_answer(job);
     let LabelAnswer::Found(p) = answer else {

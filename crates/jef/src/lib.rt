@@ -1,11 +1,13 @@
 // JEF: header, two tables of threads, the commands' bytes.
 // A port of src/formats/more.rs of zigzag, changed.
+#![tactic(auto)]
+
 ghost use Rattle.std.specs.Prelude.{◌≡◌, ◌&&◌, false, [], ◌∷◌, ◌+◌, ◌*◌, ◌≤◌, ltb, length, replicate};
 ghost use Rattle.rules.specs.Choices.{jef_entries};
 ghost use Rattle.rules.specs.Jef.{points_in, point_count_of, jef_hoop, half_up, edges, jef_table, jef_distance, words, jef_header, jef_file};
 ghost use Rattle.rules.specs.Lists.{commands, threads_of};
 ghost use Rattle.rules.specs.Refusals.{place_outside, step_too_long};
-ghost use Rattle.rules.specs.Promises.{was, left, Wrote};
+ghost use Rattle.rules.specs.Promises.{Wrote};
 ghost use Rattle.rules.specs.declared.Extension.TheVariants.{Of};
 ghost use Rattle.rules.specs.declared.Format.TheVariants.{Jef};
 ghost use Rattle.rules.specs.declared.Previous.TheVariants.{First};
@@ -35,7 +37,7 @@ fn points_in(op: Op) -> u32
 // The header's count of points.
 fn point_count(xs: &[i32], ys: &[i32], kinds: &[u8]) -> u32
     requires { length kinds.now ≤ 65535 }
-    ensures { result ≡ point_count_of (commands (was xs) (was ys) (was kinds)) }
+    ensures { result ≡ point_count_of (commands xs.now ys.now kinds.now) }
 {
     let n = list_len(xs, ys, kinds);
     let mut total = 1;
@@ -111,7 +113,7 @@ fn put_edges(ex: u32, ey: u32, w: u32, h: u32, out: &mut [u8], at: usize) -> usi
 // The entries of the threads, each not that of a neighbour of another colour, and their largest distance.
 fn put_entries(threads: &[u8], out: &mut [u8], at: usize) -> Matched
     requires { at + length (words (jef_entries First (threads_of threads.now))) ≤ length out.old }
-    ensures { Matches out at result (words (jef_entries First (threads_of (was threads)))) (jef_distance (threads_of (was threads))) }
+    ensures { Matches out at result (words (jef_entries First (threads_of threads.now))) (jef_distance (threads_of threads.now)) }
 {
     let chart = jef_threads();
     let mut last = Previous::First;
@@ -136,7 +138,7 @@ fn put_entries(threads: &[u8], out: &mut [u8], at: usize) -> Matched
 // The thread table; no threads: one entry 1.
 fn jef_palette(threads: &[u8], out: &mut [u8], at: usize) -> Matched
     requires { at + length (words (jef_table (threads_of threads.now))) ≤ length out.old }
-    ensures { Matches out at result (words (jef_table (threads_of (was threads)))) (jef_distance (threads_of (was threads))) }
+    ensures { Matches out at result (words (jef_table (threads_of threads.now))) (jef_distance (threads_of threads.now)) }
 {
     if threads.len() < 3 {
         return Matched {
@@ -149,7 +151,7 @@ fn jef_palette(threads: &[u8], out: &mut [u8], at: usize) -> Matched
 
 // How long the thread table is.
 fn table_len(threads: &[u8]) -> usize
-    ensures { result ≡ length (jef_table (threads_of (was threads))) }
+    ensures { result ≡ length (jef_table (threads_of threads.now)) }
 {
     if threads.len() < 3 {
         return 1;
@@ -202,7 +204,7 @@ fn put_header(xs: &[i32], ys: &[i32], kinds: &[u8], threads: &[u8], out: &mut [u
     requires kinds_len_bound { (length kinds.now ≤ 65535) × (length threads.now ≤ 765) }
     requires kinds_value { place_outside (commands xs.now ys.now kinds.now) ≡ false }
     requires threads_in_bounds { length (jef_header (commands xs.now ys.now kinds.now) (threads_of threads.now)) ≤ length out.old }
-    ensures { Matches out 0 result (jef_header (commands (was xs) (was ys) (was kinds)) (threads_of (was threads))) (jef_distance (threads_of (was threads))) }
+    ensures { Matches out 0 result (jef_header (commands xs.now ys.now kinds.now) (threads_of threads.now)) (jef_distance (threads_of threads.now)) }
 {
     let n = table_len(threads);
     let b = near_bounds(xs, ys, kinds);
@@ -222,7 +224,7 @@ fn put_file(xs: &[i32], ys: &[i32], kinds: &[u8], threads: &[u8], out: &mut [u8]
     requires kinds_len_bound { (length kinds.now ≤ 65535) × ((length threads.now ≤ 765) × (step_too_long Jef (commands xs.now ys.now kinds.now) ≡ false)) }
     requires kinds_value { place_outside (commands xs.now ys.now kinds.now) ≡ false }
     requires threads_in_bounds { length (jef_file (commands xs.now ys.now kinds.now) (threads_of threads.now)) ≤ length out.old }
-    ensures { Matches out 0 result (jef_file (commands (was xs) (was ys) (was kinds)) (threads_of (was threads))) (jef_distance (threads_of (was threads))) }
+    ensures { Matches out 0 result (jef_file (commands xs.now ys.now kinds.now) (threads_of threads.now)) (jef_distance (threads_of threads.now)) }
 {
     let records = put_header(xs, ys, kinds, threads, out);
     Matched {
@@ -241,7 +243,7 @@ fn write_accepted(
 ) -> WriteAnswer
     requires kinds_len_bound { (length kinds.now ≤ 65535) × ((length threads.now ≤ 765) × (step_too_long Jef (commands xs.now ys.now kinds.now) ≡ false)) }
     requires kinds_value { place_outside (commands xs.now ys.now kinds.now) ≡ false }
-    ensures { FileAnswered Jef [] (commands (was xs) (was ys) (was kinds)) (was threads) (was out) (left out) result }
+    ensures { FileAnswered Jef [] (commands xs.now ys.now kinds.now) threads.now out.old out.new result }
 {
     let n = 116 + 8 * table_len(threads) + stream_len(Stream::Jef, xs, ys, kinds);
     if out.len() < n {
@@ -260,7 +262,7 @@ pub fn write_jef(
     threads: &[u8],
     out: &mut [u8],
 ) -> WriteAnswer
-    ensures { Wrote (Of Jef) [] (was xs) (was ys) (was kinds) (was threads) (was out) (left out) result }
+    ensures { Wrote (Of Jef) [] xs.now ys.now kinds.now threads.now out.old out.new result }
 {
     let checked = check_list(Format::Jef, xs, ys, kinds, threads);
     match checked {

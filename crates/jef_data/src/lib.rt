@@ -1,5 +1,7 @@
 // JEF's chart of threads. Entry 0 is never chosen.
 // A port of src/formats/jef_data.rs of zigzag, changed.
+#![tactic(auto)]
+
 ghost use Rattle.std.specs.Prelude.{◌≡◌, ◌<◌, get_or};
 ghost use Rattle.rules.specs.Charts.{color, jef_chart};
 

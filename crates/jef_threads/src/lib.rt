@@ -1,5 +1,7 @@
 // JEF: the entry of the chart for each thread, and its distance.
 // A port of src/formats/more.rs of zigzag, changed.
+#![tactic(auto)]
+
 ghost use Rattle.std.specs.Prelude.{◌≡◌, set};
 ghost use Rattle.rules.specs.Choices.{nearest_first_answer, jef_palette, jef_choice_answer};
 ghost use Rattle.rules.specs.declared.Slot.TheVariants.{Empty};

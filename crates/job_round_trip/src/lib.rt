@@ -1,1 +1,2 @@
 // The theorem stands in specs/; there is no code here.
+#![tactic(auto)]

@@ -2,7 +2,7 @@
 -- Assumes nothing.
 use Rattle.std.specs.Prelude.{ℕ, suc, ◌+◌, ◌≤◌, ◌≡◌, refl, List, [], ◌∷◌, ◌++◌, length, drop, set}
 use Rattle.std.proofs.Common.{sym, ap, ◌∙◌, add-zero, zero-add, add-suc, suc-add, arith, length-append}
-use Rattle.std.specs.Borrow.{Bor}
+use Rattle.std.specs.Borrow.{MutBor}
 use denote.Triple.Both.{Both}
 use Rattle.std.proofs.lemmas.List.Edits.{sets, sets-eq}
 use Rattle.std.proofs.Math.Seq.{length-sets}
@@ -15,7 +15,7 @@ pub record Put {A : Type 0} (d d' : List A) (at r : ℕ) (vs : List A) : Type 0 
   pub stored : d' ≡ sets d at vs
 
 -- the same of a buffer that a call is passed, at entry and at exit
-abbrev pub Puts : {A : Type 0} → Both (Bor (List A)) (Bor (List A)) → ℕ → ℕ → List A → Type 0
+abbrev pub Puts : {A : Type 0} → Both (MutBor (List A)) (MutBor (List A)) → ℕ → ℕ → List A → Type 0
 Puts out at r vs = Put out.entry.now out.exit.now at r vs
 
 -- d₀ is the buffer at first, `whole` is what it gets from `base` on, d is the buffer now, written as far as n, and `coming` is still to

@@ -1,1 +1,2 @@
 // Lemmas stand in specs/; there is no code here.
+#![tactic(auto)]

@@ -1,10 +1,11 @@
 // PEC: the stitches of a list, one command after the other.
 // A port of src/formats/pes.rs of zigzag, changed.
+#![tactic(auto)]
+
 ghost use Rattle.std.specs.Prelude.{◌≡◌, true, false, not, ◌&&◌, ◌+◌, ◌-◌, ◌*◌, ◌<◌, ◌≤◌, pos, ◌-ℤ◌, eqb, length};
 ghost use Rattle.rules.specs.Lists.{commands};
 ghost use Rattle.rules.specs.Pec.{pec_start, pec_stitches};
 ghost use Rattle.rules.specs.Refusals.{step_too_long};
-ghost use Rattle.rules.specs.Promises.{was};
 ghost use Rattle.rules.specs.declared.Format.TheVariants.{Pec};
 ghost use Rattle.laws.specs.Buffers.{Puts};
 ghost use Rattle.laws.specs.Listing.{cmd_at};
@@ -31,7 +32,7 @@ fn is_going(kind: u8, jumped: bool) -> bool
 fn is_short_at(xs: &[i32], ys: &[i32], kinds: &[u8], i: usize) -> bool
     requires i_nonzero { (0 < i) × (i < length (commands xs.now ys.now kinds.now)) }
     requires kinds_value { step_too_long Pec (commands xs.now ys.now kinds.now) ≡ false }
-    ensures { result ≡ true → ShortAt (was xs) (was ys) (was kinds) i }
+    ensures { result ≡ true → ShortAt xs.now ys.now kinds.now i }
 {
     let dx = step(xs[i - 1], xs[i]);
     let dy = step(ys[i - 1], ys[i]);
@@ -42,7 +43,7 @@ fn is_short_at(xs: &[i32], ys: &[i32], kinds: &[u8], i: usize) -> bool
 fn are_short(xs: &[i32], ys: &[i32], kinds: &[u8], i: usize) -> bool
     requires i_nonzero { (0 < i) × (i + 8 ≤ length (commands xs.now ys.now kinds.now)) }
     requires kinds_value { step_too_long Pec (commands xs.now ys.now kinds.now) ≡ false }
-    ensures { result ≡ true → Shorts (was xs) (was ys) (was kinds) i (i + 8) }
+    ensures { result ≡ true → Shorts xs.now ys.now kinds.now i (i + 8) }
 {
     let mut all = true;
     let mut k = i;
@@ -57,7 +58,7 @@ fn are_short(xs: &[i32], ys: &[i32], kinds: &[u8], i: usize) -> bool
 fn short_till(xs: &[i32], ys: &[i32], kinds: &[u8], i: usize) -> usize
     requires i_nonzero { (0 < i) × (i ≤ length (commands xs.now ys.now kinds.now)) }
     requires kinds_value { step_too_long Pec (commands xs.now ys.now kinds.now) ≡ false }
-    ensures { (i ≤ result) × ((result ≤ length (commands (was xs) (was ys) (was kinds))) × Shorts (was xs) (was ys) (was kinds) i result) }
+    ensures { (i ≤ result) × ((result ≤ length (commands xs.now ys.now kinds.now)) × Shorts xs.now ys.now kinds.now i result) }
 {
     let n = list_len(xs, ys, kinds);
     let mut k = i;
@@ -83,7 +84,7 @@ fn put_shorts(
     requires i_nonzero { (0 < i) × ((i ≤ j) × (j ≤ length (commands xs.now ys.now kinds.now))) }
     requires shorts { Shorts xs.now ys.now kinds.now i j }
     requires i_in_bounds { at + 2 * (j - i) ≤ length out.old }
-    ensures { Puts out at result (pairs (was xs) (was ys) i (j - i)) }
+    ensures { Puts out at result (pairs xs.now ys.now i (j - i)) }
 {
     let mut k = i;
     let mut to = at;
@@ -119,7 +120,7 @@ fn one_less(wait: usize) -> usize
 // The command at i.
 fn cmd_at(xs: &[i32], ys: &[i32], kinds: &[u8], i: usize) -> Cmd
     requires { i < length (commands xs.now ys.now kinds.now) }
-    ensures { result ≡ cmd_at (was xs) (was ys) (was kinds) i }
+    ensures { result ≡ cmd_at xs.now ys.now kinds.now i }
 {
     Cmd {
         x: xs[i],
@@ -149,7 +150,7 @@ const ORIGIN: Cmd = Cmd {
 // The bytes that all commands take.
 pub fn pec_len(xs: &[i32], ys: &[i32], kinds: &[u8]) -> usize
     requires { (length kinds.now ≤ 65535) × (step_too_long Pec (commands xs.now ys.now kinds.now) ≡ false) }
-    ensures { result ≡ length (pec_stitches pec_start (pos 0) (pos 0) (commands (was xs) (was ys) (was kinds))) }
+    ensures { result ≡ length (pec_stitches pec_start (pos 0) (pos 0) (commands xs.now ys.now kinds.now)) }
 {
     let n = list_len(xs, ys, kinds);
     let mut s = start();
@@ -186,7 +187,7 @@ pub fn pec_len(xs: &[i32], ys: &[i32], kinds: &[u8]) -> usize
 pub fn pec_encode(xs: &[i32], ys: &[i32], kinds: &[u8], out: &mut [u8], at: usize) -> usize
     requires kinds_value { step_too_long Pec (commands xs.now ys.now kinds.now) ≡ false }
     requires kinds_in_bounds { at + length (pec_stitches pec_start (pos 0) (pos 0) (commands xs.now ys.now kinds.now)) ≤ length out.old }
-    ensures { Puts out at result (pec_stitches pec_start (pos 0) (pos 0) (commands (was xs) (was ys) (was kinds))) }
+    ensures { Puts out at result (pec_stitches pec_start (pos 0) (pos 0) (commands xs.now ys.now kinds.now)) }
 {
     let n = list_len(xs, ys, kinds);
     let mut s = start();

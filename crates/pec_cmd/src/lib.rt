@@ -1,5 +1,7 @@
 // PEC: the bytes of one command, and the state between two commands.
 // A port of src/formats/pes.rs of zigzag, changed.
+#![tactic(auto)]
+
 ghost use Rattle.std.specs.Prelude.{◌≡◌, not, ◌&&◌, ◌++◌, ◌+◌, ◌<◌, ◌≤◌, pos, nat_abs, neg_ℤ, ◌-ℤ◌, length};
 ghost use Rattle.rules.specs.Vocabulary.{pick, between, bits_of, eq_z};
 ghost use Rattle.rules.specs.Pec.{wide, pec_value, pec_start, pec_next, pause, pec_cmd};
@@ -12,7 +14,7 @@ use rules::Op;
 
 // Between two commands: no stitch or colour change since the last jump, or since the list began; the next colour byte is 02;
 // no command yet.
-#[derive(Drop)]
+#[derive(Clone, Copy)]
 pub struct State {
     pub jumped: bool,
     pub two: bool,

@@ -1,5 +1,7 @@
 // PEC's chart of threads and the blank thumbnail. Entry 0 of the chart is never chosen.
 // A port of src/formats/pec_data.rs of zigzag, changed.
+#![tactic(auto)]
+
 ghost use Rattle.std.specs.Prelude.{◌≡◌, ◌<◌, get_or};
 ghost use Rattle.std.proofs.lemmas.List.Edits.{sets};
 ghost use Rattle.rules.specs.Charts.{color, pec_chart, blank_icon};

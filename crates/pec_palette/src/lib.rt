@@ -1,11 +1,12 @@
 // The entries of PEC's chart for the threads: each distinct thread gets one of its own while there are any.
 // A port of src/formats/pes.rs of zigzag, changed.
+#![tactic(auto)]
+
 ghost use Rattle.std.specs.Prelude.{◌≡◌, [], ◌+◌, ◌≤◌, length, replicate, take};
 ghost use Rattle.rules.specs.Vocabulary.{pick, any};
 ghost use Rattle.rules.specs.Choices.{same_color, nearest_answer, pec_palette};
 ghost use Rattle.rules.specs.Lists.{threads_of};
 ghost use Rattle.rules.specs.Pec.{distinct, given_to, unique_palette, pec_distance};
-ghost use Rattle.rules.specs.Promises.{was};
 ghost use Rattle.rules.specs.declared.Nearest.TheVariants.{NoThread};
 ghost use Rattle.rules.specs.declared.Slot.TheVariants.{Empty};
 ghost use Rattle.formats.specs.Matches.{Matches};
@@ -19,7 +20,7 @@ use rules::{Color, Nearest, Slot};
 // Whether one of the first n threads is t.
 fn is_seen(t: Color, threads: &[u8], n: usize) -> bool
     requires { n ≤ length (threads_of threads.now) }
-    ensures { result ≡ any (same_color t) (take n (threads_of (was threads))) }
+    ensures { result ≡ any (same_color t) (take n (threads_of threads.now)) }
 {
     let mut i = 0;
     while i < n {
@@ -34,7 +35,7 @@ fn is_seen(t: Color, threads: &[u8], n: usize) -> bool
 // The entry that thread i, which is t, is given: none where it has been given one before, or none is free.
 fn new_entry(t: Color, threads: &[u8], i: usize, free: [Slot; 65]) -> Nearest
     requires { i ≤ length (threads_of threads.now) }
-    ensures { result ≡ pick (any (same_color t) (take i (threads_of (was threads)))) NoThread (nearest_answer t free) }
+    ensures { result ≡ pick (any (same_color t) (take i (threads_of threads.now))) NoThread (nearest_answer t free) }
 {
     if is_seen(t, threads, i) {
         return Nearest::NoThread;
@@ -60,7 +61,7 @@ fn filled(found: Nearest, s: Slot, entries: [Slot; 65]) -> [Slot; 65]
 // The chart in which each distinct thread stands at its own entry; `own` has the colours of PEC's.
 fn unique_chart(own: [Slot; 65], threads: &[u8]) -> [Slot; 65]
     requires { own ≡ pec_palette }
-    ensures { result ≡ (given_to (record { free = pec_palette; chart = replicate 65 Empty }) (distinct [] (threads_of (was threads)))).chart }
+    ensures { result ≡ (given_to (record { free = pec_palette; chart = replicate 65 Empty }) (distinct [] (threads_of threads.now))).chart }
 {
     let n = threads.len() / 3;
     let mut free = own;
@@ -98,7 +99,7 @@ fn put_entries(
     at: usize,
 ) -> Matched
     requires { at + length (threads_of threads.now) ≤ length out.old }
-    ensures { Matches out at result (entries_in chart (threads_of (was threads))) (off_in own chart (threads_of (was threads))) }
+    ensures { Matches out at result (entries_in chart (threads_of threads.now)) (off_in own chart (threads_of threads.now)) }
 {
     let n = threads.len() / 3;
     let mut far: u32 = 0;
@@ -121,7 +122,7 @@ fn put_entries(
 // entry.
 pub fn unique_palette(threads: &[u8], out: &mut [u8], at: usize) -> Matched
     requires { at + length (threads_of threads.now) ≤ length out.old }
-    ensures { Matches out at result (unique_palette (threads_of (was threads))) (pec_distance (threads_of (was threads))) }
+    ensures { Matches out at result (unique_palette (threads_of threads.now)) (pec_distance (threads_of threads.now)) }
 {
     let own = pec_palette();
     let chart = unique_chart(own, threads);

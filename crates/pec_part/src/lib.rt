@@ -1,10 +1,11 @@
 // PEC: the header and the stitch block that a PEC file holds after its signature and a PES file at its end.
 // A port of src/formats/pes.rs of zigzag, changed.
+#![tactic(auto)]
+
 ghost use Rattle.std.specs.Prelude.{◌≡◌, false, [], ◌+◌, ◌-◌, ◌≤◌, pos, length, replicate};
 ghost use Rattle.rules.specs.Lists.{commands, threads_of};
 ghost use Rattle.rules.specs.Pec.{pec_start, pec_stitches, unique_palette, pec_distance, pec_colors, pec_header, pec_part};
 ghost use Rattle.rules.specs.Refusals.{step_too_long};
-ghost use Rattle.rules.specs.Promises.{was};
 ghost use Rattle.rules.specs.declared.Format.TheVariants.{Pec};
 ghost use Rattle.laws.specs.Buffers.{Puts};
 ghost use Rattle.formats.specs.Matches.{Matches};
@@ -22,7 +23,7 @@ use write_refusals::color_changes;
 // `LA:`, the name, a carriage return, 12 blanks, FF 00, 6 bytes by 38 rows.
 fn put_label(name: &[u8], out: &mut [u8], at: usize) -> usize
     requires { at + 36 ≤ length out.old }
-    ensures { Puts out at result (label_text (was name)) }
+    ensures { Puts out at result (label_text name.now) }
 {
     let text = put3(out, at, 0x4C, 0x41, 0x3A);
     let end = put_name(name, 0x00, 0x80, 8, out, text);
@@ -46,7 +47,7 @@ fn put_no_colors(out: &mut [u8], at: usize) -> usize
 fn put_colors(threads: &[u8], out: &mut [u8], at: usize) -> Matched
     requires threads_len_bound { length threads.now ≤ 765 }
     requires threads_in_bounds { at + (13 + length (threads_of threads.now)) ≤ length out.old }
-    ensures { Matches out at result (pec_colors (unique_palette (threads_of (was threads)))) (pec_distance (threads_of (was threads))) }
+    ensures { Matches out at result (pec_colors (unique_palette (threads_of threads.now))) (pec_distance (threads_of threads.now)) }
 {
     let n = threads.len() / 3;
     if n == 0 {
@@ -74,7 +75,7 @@ fn put_fill(n: usize, out: &mut [u8], at: usize) -> usize
 fn put_header(name: &[u8], threads: &[u8], out: &mut [u8], at: usize) -> Matched
     requires threads_len_bound { length threads.now ≤ 765 }
     requires at_in_bounds { at + 512 ≤ length out.old }
-    ensures { Matches out at result (pec_header (was name) (threads_of (was threads))) (pec_distance (threads_of (was threads))) }
+    ensures { Matches out at result (pec_header name.now (threads_of threads.now)) (pec_distance (threads_of threads.now)) }
 {
     let colors = put_label(name, out, at);
     let fill = put_colors(threads, out, colors);
@@ -115,8 +116,8 @@ pub fn write_pec(
     requires kinds_len_bound { (length kinds.now ≤ 65535) × ((length threads.now ≤ 765) × (step_too_long Pec (commands xs.now ys.now kinds.now) ≡ false)) }
     requires n_value { n ≡ length (pec_stitches pec_start (pos 0) (pos 0) (commands xs.now ys.now kinds.now)) }
     requires threads_in_bounds { at + length (pec_part name.now (commands xs.now ys.now kinds.now) (threads_of threads.now)) ≤ length out.old }
-    ensures { Matches out at result (pec_part (was name) (commands (was xs) (was ys) (was kinds)) (threads_of (was threads)))
-        (pec_distance (threads_of (was threads))) }
+    ensures { Matches out at result (pec_part name.now (commands xs.now ys.now kinds.now) (threads_of threads.now))
+        (pec_distance (threads_of threads.now)) }
 {
     let w = spread(b.min.x, b.max.x);
     let h = spread(b.min.y, b.max.y);
@@ -133,7 +134,7 @@ pub fn write_pec(
 pub fn part_len(xs: &[i32], ys: &[i32], kinds: &[u8], threads: &[u8], n: usize) -> usize
     requires kinds_len_bound { (length kinds.now ≤ 65535) × (length threads.now ≤ 765) }
     requires n_value { n ≡ length (pec_stitches pec_start (pos 0) (pos 0) (commands xs.now ys.now kinds.now)) }
-    ensures { part_long (threads_of (was threads)) (commands (was xs) (was ys) (was kinds)) result }
+    ensures { part_long (threads_of threads.now) (commands xs.now ys.now kinds.now) result }
 {
     528 + n + 228 * (2 + color_changes(xs, ys, kinds))
 }

@@ -1,11 +1,13 @@
 // PEC and PES files.
 // A port of src/formats/pes.rs of zigzag, changed.
+#![tactic(auto)]
+
 ghost use Rattle.std.specs.Prelude.{◌≡◌, false, ◌+◌, ◌≤◌, length};
 ghost use Rattle.rules.specs.Lists.{commands, threads_of};
 ghost use Rattle.rules.specs.Pec.{pec_distance, pec_file};
 ghost use Rattle.rules.specs.Pes.{pes_file};
 ghost use Rattle.rules.specs.Refusals.{place_outside, step_too_long};
-ghost use Rattle.rules.specs.Promises.{was, left, Wrote};
+ghost use Rattle.rules.specs.Promises.{Wrote};
 ghost use Rattle.rules.specs.declared.Extension.TheVariants.{Of};
 ghost use Rattle.rules.specs.declared.Format.TheVariants.{Pes, Pec};
 ghost use Rattle.laws.specs.Buffers.{Puts};
@@ -41,8 +43,8 @@ fn put_pec_file(
     requires b_value { b ≡ bounds_of (commands xs.now ys.now kinds.now) }
     requires drawn { Drawn (commands xs.now ys.now kinds.now) kinds.now threads.now n }
     requires threads_in_bounds { length (pec_file name.now (commands xs.now ys.now kinds.now) (threads_of threads.now)) ≤ length out.old }
-    ensures { Matches out 0 result (pec_file (was name) (commands (was xs) (was ys) (was kinds)) (threads_of (was threads)))
-        (pec_distance (threads_of (was threads))) }
+    ensures { Matches out 0 result (pec_file name.now (commands xs.now ys.now kinds.now) (threads_of threads.now))
+        (pec_distance (threads_of threads.now)) }
 {
     let part = put_text(out, 0, b"#PEC0001");
     write_pec(b, name, xs, ys, kinds, threads, n, out, part)
@@ -58,7 +60,7 @@ fn pec_accepted(
     out: &mut [u8],
 ) -> WriteAnswer
     requires { (length kinds.now ≤ 65535) × ((length threads.now ≤ 765) × (step_too_long Pec (commands xs.now ys.now kinds.now) ≡ false)) }
-    ensures { FileAnswered Pec (was name) (commands (was xs) (was ys) (was kinds)) (was threads) (was out) (left out) result }
+    ensures { FileAnswered Pec name.now (commands xs.now ys.now kinds.now) threads.now out.old out.new result }
 {
     let n = pec_len(xs, ys, kinds);
     let long = 8 + part_len(xs, ys, kinds, threads, n);
@@ -80,7 +82,7 @@ pub fn write_pec_file(
     threads: &[u8],
     out: &mut [u8],
 ) -> WriteAnswer
-    ensures { Wrote (Of Pec) (was name) (was xs) (was ys) (was kinds) (was threads) (was out) (left out) result }
+    ensures { Wrote (Of Pec) name.now xs.now ys.now kinds.now threads.now out.old out.new result }
 {
     let checked = check_list(Format::Pec, xs, ys, kinds, threads);
     match checked {
@@ -123,8 +125,8 @@ fn put_pes_file(
     requires measures { measures (threads_of threads.now) (commands xs.now ys.now kinds.now) z }
     requires bytes_bound { (z.bytes ≤ 1048560) × (z.logged ≤ 65535) }
     requires threads_in_bounds { length (pes_file name.now (commands xs.now ys.now kinds.now) (threads_of threads.now)) ≤ length out.old }
-    ensures { Matches out 0 result (pes_file (was name) (commands (was xs) (was ys) (was kinds)) (threads_of (was threads)))
-        (pec_distance (threads_of (was threads))) }
+    ensures { Matches out 0 result (pes_file name.now (commands xs.now ys.now kinds.now) (threads_of threads.now))
+        (pec_distance (threads_of threads.now)) }
 {
     let long = blocks_len(z);
     let blocks = put_start((22 + long) as u32, out);
@@ -143,7 +145,7 @@ fn pes_accepted(
 ) -> WriteAnswer
     requires kinds_len_bound { (length kinds.now ≤ 65535) × ((length threads.now ≤ 765) × (step_too_long Pes (commands xs.now ys.now kinds.now) ≡ false)) }
     requires kinds_value { place_outside (commands xs.now ys.now kinds.now) ≡ false }
-    ensures { FileAnswered Pes (was name) (commands (was xs) (was ys) (was kinds)) (was threads) (was out) (left out) result }
+    ensures { FileAnswered Pes name.now (commands xs.now ys.now kinds.now) threads.now out.old out.new result }
 {
     let codes = thread_codes(threads);
     let z = measured(&codes, threads, xs, ys, kinds);
@@ -167,7 +169,7 @@ pub fn pes_from_stream(
     threads: &[u8],
     out: &mut [u8],
 ) -> WriteAnswer
-    ensures { Wrote (Of Pes) (was name) (was xs) (was ys) (was kinds) (was threads) (was out) (left out) result }
+    ensures { Wrote (Of Pes) name.now xs.now ys.now kinds.now threads.now out.old out.new result }
 {
     let checked = check_list(Format::Pes, xs, ys, kinds, threads);
     match checked {

@@ -1,10 +1,11 @@
 // PES: the sections with what stands before and behind them.
 // A port of src/formats/pes.rs of zigzag, changed.
+#![tactic(auto)]
+
 ghost use Rattle.std.specs.Prelude.{◌≡◌, false, ◌+◌, ◌*◌, ◌≤◌, nat_abs, length};
 ghost use Rattle.rules.specs.Lists.{commands, threads_of};
 ghost use Rattle.rules.specs.Pes.{halves, matrix_field, pes_blocks};
 ghost use Rattle.rules.specs.Refusals.{place_outside};
-ghost use Rattle.rules.specs.Promises.{was};
 ghost use Rattle.laws.specs.Buffers.{Puts};
 ghost use Rattle.geom.specs.Frames.{bounds_of};
 ghost use Rattle.pec_threads.specs.Codes.{Coded};
@@ -107,7 +108,7 @@ fn put_end(
     requires coded { Coded (threads_of threads.now) codes.now }
     requires kinds_len_bound { length kinds.now ≤ 65535 }
     requires kinds_in_bounds { at + length (end_text n (threads_of threads.now) (commands xs.now ys.now kinds.now)) ≤ length out.old }
-    ensures { Puts out at result (end_text n (threads_of (was threads)) (commands (was xs) (was ys) (was kinds))) }
+    ensures { Puts out at result (end_text n (threads_of threads.now) (commands xs.now ys.now kinds.now)) }
 {
     let log = put_short(out, at, n);
     let zeros = put_log(codes, threads, xs, ys, kinds, out, log);
@@ -139,7 +140,7 @@ pub fn write_pes_blocks(
     requires kinds_len_bound { (length kinds.now ≤ 65535) × (place_outside (commands xs.now ys.now kinds.now) ≡ false) }
     requires measures { measures (threads_of threads.now) (commands xs.now ys.now kinds.now) z }
     requires threads_in_bounds { at + length (pes_blocks (commands xs.now ys.now kinds.now) (threads_of threads.now)) ≤ length out.old }
-    ensures { Puts out at result (pes_blocks (commands (was xs) (was ys) (was kinds)) (threads_of (was threads))) }
+    ensures { Puts out at result (pes_blocks (commands xs.now ys.now kinds.now) (threads_of threads.now)) }
 {
     let w = spread(b.min.x, b.max.x);
     let h = spread(b.min.y, b.max.y);

@@ -1,10 +1,11 @@
 // PES: what one command writes, and the state between two commands.
 // A port of src/formats/pes.rs of zigzag, changed.
+#![tactic(auto)]
+
 ghost use Rattle.std.specs.Prelude.{◌≡◌, true, false, not, [], ◌∷◌, ◌+◌, ◌≤◌, eqb, length};
 ghost use Rattle.rules.specs.Vocabulary.{pick, little};
 ghost use Rattle.rules.specs.Lists.{op_of, threads_of};
 ghost use Rattle.rules.specs.Pes.{pes_start, pes_next, pes_point, pes_open, opens_section, shorts};
-ghost use Rattle.rules.specs.Promises.{was};
 ghost use Rattle.rules.specs.declared.Op.TheVariants.{ColorChange};
 ghost use Rattle.laws.specs.Buffers.{Puts};
 ghost use Rattle.pec_threads.specs.Codes.{Coded};
@@ -17,7 +18,7 @@ use rules::Op;
 
 // Between two commands: the kind of the one before, the entry in use, the next thread, the place of the last stitch, the
 // sections so far.
-#[derive(Drop)]
+#[derive(Clone, Copy)]
 pub struct State {
     pub before: u8,
     pub code: usize,
@@ -29,7 +30,7 @@ pub struct State {
 
 pub fn start(codes: &[u8; 256], threads: &[u8]) -> State
     requires { Coded (threads_of threads.now) codes.now }
-    ensures { state_of result ≡ pes_start (threads_of (was threads)) }
+    ensures { state_of result ≡ pes_start (threads_of threads.now) }
 {
     State {
         before: 4,
@@ -94,7 +95,7 @@ fn changed(
 ) -> State
     requires coded { Coded (threads_of threads.now) codes.now }
     requires thread_bound { s.thread ≤ 65536 }
-    ensures { state_of result ≡ pes_next (threads_of (was threads)) (state_of s) new ColorChange (record { x = x; y = y; kind = kind }) }
+    ensures { state_of result ≡ pes_next (threads_of threads.now) (state_of s) new ColorChange (record { x = x; y = y; kind = kind }) }
 {
     let code = s.code;
     let thread = s.thread;
@@ -130,7 +131,7 @@ pub fn next(
 ) -> State
     requires coded { Coded (threads_of threads.now) codes.now }
     requires thread_bound { (s.thread ≤ 65536) × (s.sections ≤ 65535) }
-    ensures { state_of result ≡ pes_next (threads_of (was threads)) (state_of s) new (op_of kind) (record { x = x; y = y; kind = kind }) }
+    ensures { state_of result ≡ pes_next (threads_of threads.now) (state_of s) new (op_of kind) (record { x = x; y = y; kind = kind }) }
 {
     match op_of(kind) {
         Op::Stitch => State {

@@ -1,9 +1,10 @@
 // PES: the sections of a design, and the log of their colours.
 // A port of src/formats/pes.rs of zigzag, changed.
+#![tactic(auto)]
+
 ghost use Rattle.std.specs.Prelude.{◌≡◌, true, ◌+◌, ◌-◌, ◌*◌, ◌<◌, ◌≤◌, pos, length, drop, get_or};
 ghost use Rattle.rules.specs.Lists.{op_of, commands, threads_of};
 ghost use Rattle.rules.specs.Pes.{run_length};
-ghost use Rattle.rules.specs.Promises.{was};
 ghost use Rattle.rules.specs.declared.Op.TheVariants.{Stitch, Jump};
 ghost use Rattle.laws.specs.Buffers.{Puts};
 ghost use Rattle.pec_threads.specs.Codes.{Coded};
@@ -21,7 +22,7 @@ use rules::Op;
 // Whether the eight commands from i on are of one kind.
 fn are_alike(kinds: &[u8], kind: u8, i: usize) -> bool
     requires { i + 8 ≤ length kinds.now }
-    ensures { result ≡ true → Alike (was kinds) kind i (i + 8) }
+    ensures { result ≡ true → Alike kinds.now kind i (i + 8) }
 {
     let mut all = true;
     let mut k = i;
@@ -35,7 +36,7 @@ fn are_alike(kinds: &[u8], kind: u8, i: usize) -> bool
 // The end of the commands of one kind from i on, taken by eights, among the first n.
 fn alike_till(kinds: &[u8], kind: u8, i: usize, n: usize) -> usize
     requires { (i ≤ n) × (n ≤ length kinds.now) }
-    ensures { (i ≤ result) × ((result ≤ n) × Alike (was kinds) kind i result) }
+    ensures { (i ≤ result) × ((result ≤ n) × Alike kinds.now kind i result) }
 {
     let mut k = i;
     while k + 8 <= n {
@@ -50,7 +51,7 @@ fn alike_till(kinds: &[u8], kind: u8, i: usize, n: usize) -> usize
 // Where the run of one kind that begins at `from` ends.
 fn run_end(xs: &[i32], ys: &[i32], kinds: &[u8], from: usize) -> usize
     requires { from < length (commands xs.now ys.now kinds.now) }
-    ensures { result ≡ from + run_length (get_or (was kinds) from 0) (drop from (commands (was xs) (was ys) (was kinds))) }
+    ensures { result ≡ from + run_length (get_or kinds.now from 0) (drop from (commands xs.now ys.now kinds.now)) }
 {
     let n = list_len(xs, ys, kinds);
     let kind = kinds[from];
@@ -78,7 +79,7 @@ fn put_points(
 ) -> usize
     requires i_le_j { (i ≤ j) × ((j ≤ length (commands xs.now ys.now kinds.now)) × (placed left bottom (commands xs.now ys.now kinds.now))) }
     requires i_in_bounds { at + 4 * (j - i) ≤ length out.old }
-    ensures { Puts out at result (points left bottom (was xs) (was ys) i (j - i)) }
+    ensures { Puts out at result (points left bottom xs.now ys.now i (j - i)) }
 {
     let mut k = i;
     let mut to = at;
@@ -105,7 +106,7 @@ fn put_stitch(
     requires i_in_bounds { i < length (commands xs.now ys.now kinds.now) }
     requires near { Near left bottom (get_or xs.now i (pos 0)) (get_or ys.now i (pos 0)) }
     requires i_in_bounds_2 { at + length (cmd_text left bottom s new Stitch xs.now ys.now kinds.now i) ≤ length out.old }
-    ensures { Puts out at result (cmd_text left bottom s new Stitch (was xs) (was ys) (was kinds) i) }
+    ensures { Puts out at result (cmd_text left bottom s new Stitch xs.now ys.now kinds.now i) }
 {
     let x = xs[i];
     let y = ys[i];
@@ -133,7 +134,7 @@ fn put_jump(
     requires i_in_bounds { i < length (commands xs.now ys.now kinds.now) }
     requires near { (Near left bottom s.x s.y) × (placed left bottom (commands xs.now ys.now kinds.now)) }
     requires i_in_bounds_2 { at + length (cmd_text left bottom s new Jump xs.now ys.now kinds.now i) ≤ length out.old }
-    ensures { Puts out at result (cmd_text left bottom s new Jump (was xs) (was ys) (was kinds) i) }
+    ensures { Puts out at result (cmd_text left bottom s new Jump xs.now ys.now kinds.now i) }
 {
     if !new {
         return at;
@@ -160,7 +161,7 @@ fn put_cmd(
     requires i_in_bounds { i < length (commands xs.now ys.now kinds.now) }
     requires near { (Near left bottom s.x s.y) × (placed left bottom (commands xs.now ys.now kinds.now)) }
     requires i_in_bounds_2 { at + length (cmd_text left bottom s new (op_of (get_or kinds.now i 0)) xs.now ys.now kinds.now i) ≤ length out.old }
-    ensures { Puts out at result (cmd_text left bottom s new (op_of (get_or (was kinds) i 0)) (was xs) (was ys) (was kinds) i) }
+    ensures { Puts out at result (cmd_text left bottom s new (op_of (get_or kinds.now i 0)) xs.now ys.now kinds.now i) }
 {
     match op_of(kinds[i]) {
         Op::Stitch => put_stitch(left, bottom, s, new, xs, ys, kinds, i, out, at),
@@ -184,7 +185,7 @@ pub fn put_sections(
     requires coded { Coded (threads_of threads.now) codes.now }
     requires kinds_len_bound { (length kinds.now ≤ 65535) × ((Near left bottom (pos 0) (pos 0)) × (placed left bottom (commands xs.now ys.now kinds.now))) }
     requires kinds_in_bounds { at + length (sections_text left bottom threads.now xs.now ys.now kinds.now) ≤ length out.old }
-    ensures { Puts out at result (sections_text left bottom (was threads) (was xs) (was ys) (was kinds)) }
+    ensures { Puts out at result (sections_text left bottom threads.now xs.now ys.now kinds.now) }
 {
     let n = list_len(xs, ys, kinds);
     let mut s = start(codes, threads);
@@ -208,7 +209,7 @@ pub fn put_sections(
 }
 
 // How many bytes the sections take, how many sections there are, and how many are logged.
-#[derive(Drop)]
+#[derive(Clone, Copy)]
 pub struct Sizes {
     pub bytes: usize,
     pub sections: usize,
@@ -218,7 +219,7 @@ pub struct Sizes {
 pub fn measured(codes: &[u8; 256], threads: &[u8], xs: &[i32], ys: &[i32], kinds: &[u8]) -> Sizes
     requires coded { Coded (threads_of threads.now) codes.now }
     requires kinds_len_bound { length kinds.now ≤ 65535 }
-    ensures { measures (threads_of (was threads)) (commands (was xs) (was ys) (was kinds)) result }
+    ensures { measures (threads_of threads.now) (commands xs.now ys.now kinds.now) result }
 {
     let n = list_len(xs, ys, kinds);
     let mut s = start(codes, threads);
@@ -262,7 +263,7 @@ pub fn put_log(
     requires coded { Coded (threads_of threads.now) codes.now }
     requires kinds_len_bound { length kinds.now ≤ 65535 }
     requires kinds_in_bounds { at + length (log_text threads.now xs.now ys.now kinds.now) ≤ length out.old }
-    ensures { Puts out at result (log_text (was threads) (was xs) (was ys) (was kinds)) }
+    ensures { Puts out at result (log_text threads.now xs.now ys.now kinds.now) }
 {
     let n = list_len(xs, ys, kinds);
     let mut s = start(codes, threads);

@@ -1,6 +1,6 @@
 -- What is left of a read once the file is not refused: the records' answers, and refusal 11.
 use Rattle.std.specs.Prelude.{ℕ, ◌+◌, ◌*◌, ◌≤◌, ◌<◌, ◌≡◌, Bool, ◌&&◌, ◌||◌, List, [], ◌∷◌, ltb, leb, ℤ, pos, length, drop, take, get_or}
-use Rattle.std.specs.Borrow.{Bor}
+use Rattle.std.specs.Borrow.{MutBor}
 use denote.Triple.Both.{Both}
 use Rattle.rules.specs.Answers.{places, runs, blocks, cuts}
 use Rattle.rules.specs.Formats.{layout_of}
@@ -101,7 +101,7 @@ FileGiven f s P P' R R' B B' r = Given (places_of f s) P P' (runs_of f s) R R' (
 -- ---- the same of buffers that a call is passed, at entry and at exit
 
 abbrev pub Lent : Type 0 → Type 0
-Lent A = Both (Bor A) (Bor A)
+Lent A = Both (MutBor A) (MutBor A)
 
 abbrev pub Answered : (ℕ → ℕ) → Row → List ℕ → Lent (List ℤ) → Lent (List ℕ) → Lent (List ℕ) → ReadAnswer → Type 0
 Answered c f bytes places runs blocks r = RecordsGiven c f bytes (was places) (left places) (was runs) (left runs) (was blocks) (left blocks) r

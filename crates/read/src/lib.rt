@@ -1,10 +1,12 @@
 // Reading: a file of any format, into three caller-provided buffers.
 // A port of src/formats/read.rs of zigzag, changed.
+#![tactic(auto)]
+
 ghost use Rattle.std.specs.Prelude.{◌≡◌, false, ◌+◌, ◌≤◌, ◌<◌, length, drop, get_or};
 ghost use Rattle.rules.specs.Jef.{jef_records};
 ghost use Rattle.rules.specs.Text.{word_at};
 ghost use Rattle.rules.specs.Refusals.{extension_of};
-ghost use Rattle.rules.specs.Promises.{was, left, ReadOf};
+ghost use Rattle.rules.specs.Promises.{ReadOf};
 ghost use Rattle.rules.specs.declared.Extension.TheVariants.{Of};
 ghost use Rattle.read_builder.specs.Colour.{colour_in};
 ghost use Rattle.read_refusals.specs.declared.Head.TheVariants.{Pec, Dst, Exp, Jef, Vp3};
@@ -42,7 +44,7 @@ fn read_records(
     blocks: &mut [u32],
 ) -> ReadAnswer
     requires { length bytes.now ≤ 2097152 }
-    ensures { Answered (colour_in (was colors)) f (was bytes) places runs blocks result }
+    ensures { Answered (colour_in colors.now) f bytes.now places runs blocks result }
 {
     if ample(bytes.len(), places.len(), runs.len(), blocks.len()) {
         return ReadAnswer::Read(fill(f, bytes, colors, places, runs, blocks));
@@ -56,8 +58,8 @@ fn read_records(
 
 // The bytes from a place on.
 pub fn rest(file: &[u8], from: usize) -> &[u8]
-    ensures result_value { result.now ≡ drop from (was file) }
-    ensures result_in_bounds { length result.now ≤ length (was file) }
+    ensures result_value { result.now ≡ drop from file.now }
+    ensures result_in_bounds { length result.now ≤ length file.now }
 {
     part(file, from, file.len())
 }
@@ -73,7 +75,7 @@ fn read_pec(
 ) -> ReadAnswer
     requires file_len_bound { (length file.now ≤ 2097152) × (start < length file.now) }
     requires count_value { count ≡ get_or file.now (start + 48) 0 }
-    ensures { HeadAnswered (Pec start count) (was file) places runs blocks result }
+    ensures { HeadAnswered (Pec start count) file.now places runs blocks result }
 {
     let mut colors = [0u32; 256];
     let n = pec_colors(file, start, count, &mut colors);
@@ -89,7 +91,7 @@ fn read_pec(
 
 fn read_dst(file: &[u8], places: &mut [i32], runs: &mut [u32], blocks: &mut [u32]) -> ReadAnswer
     requires { length file.now ≤ 2097152 }
-    ensures { HeadAnswered Dst (was file) places runs blocks result }
+    ensures { HeadAnswered Dst file.now places runs blocks result }
 {
     let mut colors = [0u32; 256];
     let n = dst_colors(file, &mut colors);
@@ -106,7 +108,7 @@ fn read_dst(file: &[u8], places: &mut [i32], runs: &mut [u32], blocks: &mut [u32
 // EXP stores no colours.
 fn read_exp(file: &[u8], places: &mut [i32], runs: &mut [u32], blocks: &mut [u32]) -> ReadAnswer
     requires { length file.now ≤ 2097152 }
-    ensures { HeadAnswered Exp (was file) places runs blocks result }
+    ensures { HeadAnswered Exp file.now places runs blocks result }
 {
     let none = [0u32; 1];
     read_records(Row::Exp, file, &none[..0], places, runs, blocks)
@@ -115,7 +117,7 @@ fn read_exp(file: &[u8], places: &mut [i32], runs: &mut [u32], blocks: &mut [u32
 // The stitches of a JEF file: from its offset on, none if that is below zero.
 pub fn jef_stitches(file: &[u8], offset: i32) -> &[u8]
     requires { word_at 0 file.now ≡ offset }
-    ensures { result.now ≡ jef_records (was file) }
+    ensures { result.now ≡ jef_records file.now }
 {
     if offset < 0 {
         return &file[..0];
@@ -132,7 +134,7 @@ fn read_jef(
 ) -> ReadAnswer
     requires file_len_bound { length file.now ≤ 2097152 }
     requires file_value { word_at 0 file.now ≡ offset }
-    ensures { HeadAnswered (Jef offset) (was file) places runs blocks result }
+    ensures { HeadAnswered (Jef offset) file.now places runs blocks result }
 {
     let mut colors = [0u32; 256];
     let n = jef_colors(file, &mut colors);
@@ -155,7 +157,7 @@ fn read_vp3(
     blocks: &mut [u32],
 ) -> ReadAnswer
     requires { Opened (Vp3 counts) file.now }
-    ensures { HeadAnswered (Vp3 counts) (was file) places runs blocks result }
+    ensures { HeadAnswered (Vp3 counts) file.now places runs blocks result }
 {
     if has_room(sizes_of(counts), places.len(), runs.len(), blocks.len()) {
         read_vp3::fill(file, places, runs, blocks);
@@ -173,7 +175,7 @@ fn read_part(
     blocks: &mut [u32],
 ) -> ReadAnswer
     requires { Opened head file.now }
-    ensures { HeadAnswered head (was file) places runs blocks result }
+    ensures { HeadAnswered head file.now places runs blocks result }
 {
     match head {
         Head::Pec { start, count } => read_pec(file, start, count, places, runs, blocks),
@@ -192,7 +194,7 @@ pub fn read_stitch_file(
     runs: &mut [u32],
     blocks: &mut [u32],
 ) -> ReadAnswer
-    ensures { ReadOf (Of f) (was file) (was places) (was runs) (was blocks) (left places) (left runs) (left blocks) result }
+    ensures { ReadOf (Of f) file.now places.old runs.old blocks.old places.new runs.new blocks.new result }
 {
     let found = front(f, file);
     match found {
@@ -209,7 +211,7 @@ pub fn read(
     runs: &mut [u32],
     blocks: &mut [u32],
 ) -> ReadAnswer
-    ensures { ReadOf (extension_of (was ext)) (was file) (was places) (was runs) (was blocks) (left places) (left runs) (left blocks) result }
+    ensures { ReadOf (extension_of ext.now) file.now places.old runs.old blocks.old places.new runs.new blocks.new result }
 {
     let named = extension_of(ext);
     let Extension::Of(f) = named else {

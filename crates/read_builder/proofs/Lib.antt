@@ -1,7 +1,4 @@
 -- What the proofs cite, here and in the crates above.
 pub mod Parts
 pub mod Places
-pub mod Lent
-pub mod Methods
-pub mod Lenders
 pub mod Rows

@@ -3,7 +3,6 @@
 ghost use Rattle.std.specs.Prelude.{◌≡◌};
 ghost use Rattle.rules.specs.Files.{or_default};
 ghost use Rattle.rules.specs.Layout.{nothing};
-ghost use Rattle.rules.specs.Promises.{was};
 ghost use Rattle.read_builder.specs.Colour.{colour_in};
 
 const DEFAULT_COLORS: [u32; 8] = [
@@ -18,7 +17,7 @@ fn default_color(k: u32) -> u32
 
 // The stored colour of block k, or else a default by its number. A cell has the chart entry above the 24 bits of the colour.
 pub fn color_of(colors: &[u32], k: u32) -> u32
-    ensures { result ≡ colour_in (was colors) k }
+    ensures { result ≡ colour_in colors.now k }
 {
     let i = k as usize;
     if i < colors.len() {

@@ -1,6 +1,8 @@
 // Reading: what has been read so far, the colours of blocks, and the cuts of a DST.
 // The builder is one small record that is passed by mutable reference; here is what each record of a file makes of it.
 // A port of src/formats/read.rs of zigzag, changed.
+#![tactic(auto)]
+
 pub mod colors;
 pub mod cuts;
 
@@ -8,14 +10,13 @@ ghost use Rattle.std.specs.Prelude.{◌≡◌, ◌+◌, ◌^◌, ◌<◌, ◌≤
 ghost use Rattle.std.specs.Int.Signed.{mag};
 ghost use Rattle.read_records.specs.Fields.{len_of};
 ghost use Rattle.read_builder.specs.Builders.{Small, Counted, origin, stitched, jumped, changed, finished, some, opening, place_after};
-ghost use Rattle.rules.specs.Promises.{was, left};
 
 use rules::{Counts, Record};
 
 // The place; the points of the open run, 0 where none is open; the number of the block and the runs begun in it; and all points,
 // ended runs and listed blocks so far. No two neighbours are both left alone by a stitch, or by a jump: the compiler would keep
 // them as one number, and the loops would be slower.
-#[derive(Drop)]
+#[derive(Clone, Copy)]
 pub struct Builder {
     pub x: i32,
     pub block: u32,
@@ -126,21 +127,21 @@ pub fn after_change(b: Builder, x: i32, y: i32) -> Builder
 impl Builder {
     pub fn stitch(&mut self, x: i32, y: i32)
         requires { Small self.old }
-        ensures { left self ≡ stitched (was self) x y }
+        ensures { self.new ≡ stitched self.old x y }
     {
         *self = after_stitch(*self, x, y);
     }
 
     pub fn jump(&mut self, x: i32, y: i32)
         requires { Small self.old }
-        ensures { left self ≡ jumped (was self) x y }
+        ensures { self.new ≡ jumped self.old x y }
     {
         *self = after_jump(*self, x, y);
     }
 
     pub fn color_change(&mut self, x: i32, y: i32)
         requires { Small self.old }
-        ensures { left self ≡ changed (was self) x y }
+        ensures { self.new ≡ changed self.old x y }
     {
         *self = after_change(*self, x, y);
     }

@@ -1,13 +1,14 @@
 // The first pass over the records: how much the answers hold. No place is kept, so a few numbers are enough. Each format has a loop of
 // its own, whose turn passes one record or a few at once; what is left is counted record by record.
 // A port of src/formats/read.rs of zigzag, changed.
+#![tactic(auto)]
+
 pub mod pairs;
 pub mod steps;
 pub mod tally;
 pub mod triples;
 
 ghost use Rattle.std.specs.Prelude.{◌≤◌, length};
-ghost use Rattle.rules.specs.Promises.{was};
 ghost use Rattle.read_records.specs.Firsts.{first_record_of};
 ghost use Rattle.read_passes.specs.Told.{Sized};
 
@@ -19,7 +20,7 @@ use read_records::Row;
 
 pub fn count(f: Row, bytes: &[u8]) -> Sizes
     requires { length bytes.now ≤ 2097152 }
-    ensures { Sized (first_record_of f) (was bytes) result }
+    ensures { Sized (first_record_of f) bytes.now result }
 {
     match f {
         Row::Pec => count_steps(bytes),

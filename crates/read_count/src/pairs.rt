@@ -1,7 +1,6 @@
 // EXP and JEF: two stitches, or one record, in a turn.
 // A port of src/formats/read.rs of zigzag, changed.
 ghost use Rattle.std.specs.Prelude.{◌≡◌, Bool, ◌+◌, ◌≤◌, ◌<◌, length, get_or};
-ghost use Rattle.rules.specs.Promises.{was};
 ghost use Rattle.read_records.specs.Firsts.{first_record_of, pair_row};
 ghost use Rattle.read_records.specs.Tables.{Kinds};
 ghost use Rattle.read_passes.specs.Told.{Sized};
@@ -17,7 +16,7 @@ fn pass_control(jef: bool, t: Tally, table: &[u8], bytes: &[u8], at: usize) -> P
     requires at_value { get_or bytes.now at 0 ≡ 0x80 }
     requires kinds { Kinds jef table.now }
     requires tallying { Tallying (pair_row jef) bytes.now t at }
-    ensures tallying_2 { Tallying (pair_row jef) (was bytes) result.t result.at }
+    ensures tallying_2 { Tallying (pair_row jef) bytes.now result.t result.at }
     ensures at_lt_at { at < result.at }
 {
     let k = table[bytes[at + 1] as usize];
@@ -46,7 +45,7 @@ fn pass_pair(jef: bool, t: Tally, table: &[u8], bytes: &[u8], at: usize) -> Pass
     requires at_in_bounds { at + 4 ≤ length bytes.now }
     requires kinds { Kinds jef table.now }
     requires tallying { Tallying (pair_row jef) bytes.now t at }
-    ensures tallying_2 { Tallying (pair_row jef) (was bytes) result.t result.at }
+    ensures tallying_2 { Tallying (pair_row jef) bytes.now result.t result.at }
     ensures at_lt_at { at < result.at }
 {
     if bytes[at] == 0x80 {
@@ -66,7 +65,7 @@ fn pass_pair(jef: bool, t: Tally, table: &[u8], bytes: &[u8], at: usize) -> Pass
 
 pub fn count_pairs(jef: bool, bytes: &[u8]) -> Sizes
     requires { length bytes.now ≤ 2097152 }
-    ensures { Sized (first_record_of (pair_row jef)) (was bytes) result }
+    ensures { Sized (first_record_of (pair_row jef)) bytes.now result }
 {
     let table = kinds(jef);
     let mut t = none();

@@ -1,7 +1,6 @@
 // PES and PEC: two stitches of one kind, a row of jumps, or one record, in a turn.
 // A port of src/formats/read.rs of zigzag, changed.
 ghost use Rattle.std.specs.Prelude.{◌≡◌, ℕ, ◌+◌, ◌≤◌, ◌<◌, length};
-ghost use Rattle.rules.specs.Promises.{was};
 ghost use Rattle.read_records.specs.declared.Row.TheVariants.{Pec};
 ghost use Rattle.read_records.specs.Firsts.{first_record_of};
 ghost use Rattle.read_records.specs.Words.{four_at};
@@ -17,7 +16,7 @@ use read_records::words::{eight, four, past, sews, short_long, top, two_long, tw
 fn pass_jumps(bytes: &[u8], from: usize, end: usize) -> usize
     requires bytes_len_bound { length bytes.now ≤ 2097152 }
     requires by_index { (at : ℕ) → at < end → at + 8 ≤ length bytes.now }
-    ensures jumps { Jumps Pec (was bytes) from result }
+    ensures jumps { Jumps Pec bytes.now from result }
     ensures lower_bound { from ≤ result }
 {
     let mut at = from;
@@ -41,7 +40,7 @@ fn pass_word(t: Tally, bytes: &[u8], at: usize, w: u32, end: usize) -> Passed
     requires by_index { (at : ℕ) → at < end → at + 8 ≤ length bytes.now }
     requires w_value { w ≡ four_at bytes.now at }
     requires tallying { Tallying Pec bytes.now t at }
-    ensures tallying_2 { Tallying Pec (was bytes) result.t result.at }
+    ensures tallying_2 { Tallying Pec bytes.now result.t result.at }
     ensures at_lt_at { at < result.at }
 {
     if w % 65536 == 0xB0FE {
@@ -71,7 +70,7 @@ fn pass_steps(t: Tally, bytes: &[u8], at: usize, end: usize) -> Passed
     requires at_lt_end { at < end }
     requires by_index { (at : ℕ) → at < end → at + 8 ≤ length bytes.now }
     requires tallying { Tallying Pec bytes.now t at }
-    ensures tallying_2 { Tallying Pec (was bytes) result.t result.at }
+    ensures tallying_2 { Tallying Pec bytes.now result.t result.at }
     ensures at_lt_at { at < result.at }
 {
     let v = eight(bytes, at);
@@ -98,7 +97,7 @@ fn pass_steps(t: Tally, bytes: &[u8], at: usize, end: usize) -> Passed
 
 pub fn count_steps(bytes: &[u8]) -> Sizes
     requires { length bytes.now ≤ 2097152 }
-    ensures { Sized (first_record_of Pec) (was bytes) result }
+    ensures { Sized (first_record_of Pec) bytes.now result }
 {
     let mut t = none();
     let mut at: usize = 0;

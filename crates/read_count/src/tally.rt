@@ -1,7 +1,6 @@
 // The numbers that are kept while records are counted, and the plain loop.
 // A port of src/formats/read.rs of zigzag, changed.
 ghost use Rattle.std.specs.Prelude.{◌≡◌, ◌+◌, ◌≤◌, ◌<◌, ◌^◌, length, eqb};
-ghost use Rattle.rules.specs.Promises.{was};
 ghost use Rattle.rules.specs.Vocabulary.{pick};
 ghost use Rattle.read_records.specs.Firsts.{first_record_of};
 ghost use Rattle.read_passes.specs.Told.{Sized};
@@ -12,7 +11,7 @@ use read_records::{Row, record_at};
 use rules::{Counts, Record};
 
 // Stitches; runs begun; 1 where a run is open; the runs begun before this block; and blocks with runs that have ended.
-#[derive(Drop)]
+#[derive(Clone, Copy)]
 pub struct Tally {
     pub stitches: u32,
     pub runs: u32,
@@ -22,7 +21,7 @@ pub struct Tally {
 }
 
 // A tally, and the place of the next record.
-#[derive(Drop)]
+#[derive(Clone, Copy)]
 pub struct Passed {
     pub t: Tally,
     pub at: usize,
@@ -97,7 +96,7 @@ pub fn tally_change(t: Tally) -> Tally
 fn pass(f: Row, bytes: &[u8], t: Tally, at: usize) -> Passed
     requires tallying { Tallying f bytes.now t at }
     requires at_in_bounds { at < length bytes.now }
-    ensures tallying_2 { Tallying f (was bytes) result.t result.at }
+    ensures tallying_2 { Tallying f bytes.now result.t result.at }
     ensures at_lt_at { at < result.at }
 {
     match record_at(f, bytes, at) {
@@ -146,7 +145,7 @@ pub fn counts(t: Tally) -> Counts
 // One record after the other, from byte `from` on, to the end.
 pub fn count_rest(f: Row, bytes: &[u8], from: usize, first: Tally) -> Sizes
     requires { Tallying f bytes.now first from }
-    ensures { Sized (first_record_of f) (was bytes) result }
+    ensures { Sized (first_record_of f) bytes.now result }
 {
     let mut t = first;
     let mut at = from;

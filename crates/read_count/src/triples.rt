@@ -2,7 +2,6 @@
 // A port of src/formats/read.rs of zigzag, changed.
 ghost use Rattle.std.specs.Prelude.{◌≡◌, ◌+◌, ◌≤◌, ◌<◌, length};
 ghost use Rattle.rules.specs.Dst.{dst_first, under};
-ghost use Rattle.rules.specs.Promises.{was};
 ghost use Rattle.rules.specs.Vocabulary.{pick};
 ghost use Rattle.read_records.specs.declared.Row.TheVariants.{Dst};
 ghost use Rattle.read_records.specs.Firsts.{first_record_of};
@@ -26,7 +25,7 @@ fn sews(c: u8) -> u32
 fn pass_triple(t: Tally, bytes: &[u8], at: usize) -> Passed
     requires at_in_bounds { at + 12 ≤ length bytes.now }
     requires tallying { Tallying Dst bytes.now t at }
-    ensures tallying_2 { Tallying Dst (was bytes) result.t result.at }
+    ensures tallying_2 { Tallying Dst bytes.now result.t result.at }
     ensures at_lt_at { at < result.at }
 {
     let c = bytes[at + 2];
@@ -53,7 +52,7 @@ fn pass_triple(t: Tally, bytes: &[u8], at: usize) -> Passed
 
 pub fn count_triples(bytes: &[u8]) -> Sizes
     requires { length bytes.now ≤ 2097152 }
-    ensures { Sized (first_record_of Dst) (was bytes) result }
+    ensures { Sized (first_record_of Dst) bytes.now result }
 {
     let mut t = none();
     let mut at: usize = 0;

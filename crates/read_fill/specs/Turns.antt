@@ -1,6 +1,6 @@
 -- What a turn of a loop over the records of some bytes makes of the builder and of three buffers.
 use Rattle.std.specs.Prelude.{ℕ, ◌+◌, ◌<◌, ◌≡◌, List, ℤ, ◌+ℤ◌, length, drop}
-use Rattle.std.specs.Borrow.{Bor}
+use Rattle.std.specs.Borrow.{Bor, MutBor}
 use denote.Triple.Both.{Both}
 use Rattle.rules.specs.Promises.{was, left}
 use Rattle.read_records.specs.declared.Row.{Row}
@@ -14,11 +14,11 @@ use Rattle.read_passes.specs.Walks.{Ready, Went, Ended}
 use Rattle.read_fill.specs.declared.turn.Turn.{Turn}
 
 -- there is room for all that is to come
-abbrev pub Room : Row → Bor (List ℕ) → Bor (List ℕ) → Builder → ℕ → Bor (List ℤ) → Bor (List ℕ) → Bor (List ℕ) → Type 0
+abbrev pub Room : Row → Bor (List ℕ) → Bor (List ℕ) → Builder → ℕ → MutBor (List ℤ) → MutBor (List ℕ) → MutBor (List ℕ) → Type 0
 Room f bytes colors b at places runs blocks = Ready f bytes.now (colour_in colors.now) b at (length places.now) (length runs.now) (length blocks.now)
 
 abbrev Lent : Type 0 → Type 0
-Lent A = Both (Bor A) (Bor A)
+Lent A = Both (MutBor A) (MutBor A)
 
 -- some records have been read, one at least
 pub record Turned (f : Row) (bytes : List ℕ) (c : ℕ → ℕ) (b : Builder) (at : ℕ) (P P' : List ℤ) (R R' B B' : List ℕ) (t : Turn) : Type 0 where

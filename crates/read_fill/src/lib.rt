@@ -1,6 +1,8 @@
 // The second pass over the records: the answers go to the front of the buffers. Each format has a loop of its own, whose turn takes one
 // record or a few at once; what is left is read record by record. All goes through the builder.
 // A port of src/formats/read.rs of zigzag, changed.
+#![tactic(auto)]
+
 pub mod pairs;
 pub mod steps;
 pub mod triples;
@@ -8,7 +10,6 @@ pub mod turn;
 
 ghost use Rattle.std.specs.Prelude.{◌≡◌, ◌≤◌, length};
 ghost use Rattle.rules.specs.Files.{filled};
-ghost use Rattle.rules.specs.Promises.{was, left};
 ghost use Rattle.rules.specs.declared.Verdict.TheVariants.{Accepted};
 ghost use Rattle.read_records.specs.Firsts.{first_record_of};
 ghost use Rattle.read_builder.specs.Builders.{origin};
@@ -43,8 +44,8 @@ fn fill_records(
     blocks: &mut [u32],
 ) -> Filled
     requires { Room f bytes colors origin 0 places runs blocks }
-    ensures ends { Ends f (was bytes) (was colors) places runs blocks result.b }
-    ensures rows_of { RowsOf f (was bytes) result.rows }
+    ensures ends { Ends f bytes.now colors.now places runs blocks result.b }
+    ensures rows_of { RowsOf f bytes.now result.rows }
 {
     match f {
         Row::Pec => no_rows(fill_steps(bytes, colors, places, runs, blocks)),
@@ -82,10 +83,10 @@ pub fn fill(
 ) -> Counts
     requires bytes_len_bound { length bytes.now ≤ 2097152 }
     requires fits { Fits (colour_in colors.now) (first_record_of f) bytes.now (length places.old) (length runs.old) (length blocks.old) }
-    ensures told { Told f (was bytes) result }
-    ensures places_value { left places ≡ filled Accepted (places_in (first_record_of f) (was bytes)) (was places) }
-    ensures runs_value { left runs ≡ filled Accepted (runs_in (first_record_of f) (was bytes)) (was runs) }
-    ensures blocks_value { left blocks ≡ filled Accepted (blocks_in (colour_in (was colors)) (first_record_of f) (was bytes)) (was blocks) }
+    ensures told { Told f bytes.now result }
+    ensures places_value { places.new ≡ filled Accepted (places_in (first_record_of f) bytes.now) places.old }
+    ensures runs_value { runs.new ≡ filled Accepted (runs_in (first_record_of f) bytes.now) runs.old }
+    ensures blocks_value { blocks.new ≡ filled Accepted (blocks_in (colour_in colors.now) (first_record_of f) bytes.now) blocks.old }
 {
     let q = fill_records(f, bytes, colors, places, runs, blocks);
     let b = q.b;

@@ -1,7 +1,6 @@
 // EXP and JEF: two stitches, or one record, in a turn.
 // A port of src/formats/read.rs of zigzag, changed.
 ghost use Rattle.std.specs.Prelude.{◌≡◌, ◌+◌, ◌≤◌, length, get_or};
-ghost use Rattle.rules.specs.Promises.{was};
 ghost use Rattle.read_records.specs.Firsts.{pair_row};
 ghost use Rattle.read_builder.specs.Builders.{origin};
 ghost use Rattle.read_records.specs.Tables.{Kinds};
@@ -30,7 +29,7 @@ fn turn_control(
     requires at_in_bounds { at + 4 ≤ length bytes.now }
     requires at_value { get_or bytes.now at 0 ≡ 0x80 }
     requires room { Room (pair_row jef) bytes colors b at places runs blocks }
-    ensures { Turns (pair_row jef) (was bytes) (was colors) b at places runs blocks result }
+    ensures { Turns (pair_row jef) bytes.now colors.now b at places runs blocks result }
 {
     let c = bytes[at + 1];
     let k = table[c as usize];
@@ -71,7 +70,7 @@ fn turn_pair(
     requires kinds { Kinds jef table.now }
     requires at_in_bounds { at + 4 ≤ length bytes.now }
     requires room { Room (pair_row jef) bytes colors b at places runs blocks }
-    ensures { Turns (pair_row jef) (was bytes) (was colors) b at places runs blocks result }
+    ensures { Turns (pair_row jef) bytes.now colors.now b at places runs blocks result }
 {
     if bytes[at] == 0x80 {
         return turn_control(jef, b, table, bytes, at, colors, places, runs, blocks);
@@ -95,7 +94,7 @@ pub fn fill_pairs(
     blocks: &mut [u32],
 ) -> Builder
     requires { Room (pair_row jef) bytes colors origin 0 places runs blocks }
-    ensures { Ends (pair_row jef) (was bytes) (was colors) places runs blocks result }
+    ensures { Ends (pair_row jef) bytes.now colors.now places runs blocks result }
 {
     let table = kinds(jef);
     let mut b = new();

@@ -1,7 +1,6 @@
 // PES and PEC: two stitches of one kind, a row of jumps, or one record, in a turn.
 // A port of src/formats/read.rs of zigzag, changed.
 ghost use Rattle.std.specs.Prelude.{◌≡◌, true, ℕ, ◌+◌, ◌≤◌, ◌<◌, length};
-ghost use Rattle.rules.specs.Promises.{was};
 ghost use Rattle.read_records.specs.declared.Row.TheVariants.{Pec};
 ghost use Rattle.read_builder.specs.Builders.{origin};
 ghost use Rattle.read_records.specs.Tables.{PecSteps};
@@ -27,7 +26,7 @@ fn hop_row(steps: &[i32], first: Builder, bytes: &[u8], from: usize, end: usize)
     requires from_in_bounds { from ≤ length bytes.now }
     requires bounded { Bounded first from }
     requires run_value { first.run ≡ 0 }
-    ensures hopped { Hopped (was bytes) first from result.b result.at }
+    ensures hopped { Hopped bytes.now first from result.b result.at }
     ensures from_le_at { from ≤ result.at }
 {
     let mut b = first;
@@ -53,7 +52,7 @@ fn sew_short(steps: &[i32], b: Builder, bytes: &[u8], at: usize, places: &mut [i
     requires at_in_bounds { at + 8 ≤ length bytes.now }
     requires at_value { masked 0x80808080 0 (eight_at bytes.now at) ≡ true }
     requires room_here { RoomHere Pec bytes.now b at (length places.old) }
-    ensures { Sewn Pec (was bytes) b at places result }
+    ensures { Sewn Pec bytes.now b at places result }
 {
     let dx = first_of(steps, bytes[at]);
     let dy = first_of(steps, bytes[at + 1]);
@@ -72,7 +71,7 @@ fn sew_long(steps: &[i32], b: Builder, bytes: &[u8], at: usize, places: &mut [i3
     requires at_in_bounds { at + 8 ≤ length bytes.now }
     requires at_value { masked 0x00B000B000B000B0 0x0080008000800080 (eight_at bytes.now at) ≡ true }
     requires room_here { RoomHere Pec bytes.now b at (length places.old) }
-    ensures { Sewn Pec (was bytes) b at places result }
+    ensures { Sewn Pec bytes.now b at places result }
 {
     let dx = pec_step(steps, bytes[at], bytes[at + 1]);
     let dy = pec_step(steps, bytes[at + 2], bytes[at + 3]);
@@ -91,7 +90,7 @@ fn sew_short_long(steps: &[i32], b: Builder, bytes: &[u8], at: usize, places: &m
     requires at_in_bounds { at + 8 ≤ length bytes.now }
     requires at_value { masked 0x000000B08000B080 0x0000008000008000 (eight_at bytes.now at) ≡ true }
     requires room_here { RoomHere Pec bytes.now b at (length places.old) }
-    ensures { Sewn Pec (was bytes) b at places result }
+    ensures { Sewn Pec bytes.now b at places result }
 {
     let dx = first_of(steps, bytes[at]);
     let dy = pec_step(steps, bytes[at + 1], bytes[at + 2]);
@@ -122,7 +121,7 @@ fn turn_word(
     requires by_index { (i : ℕ) → i < end → i + 8 ≤ length bytes.now }
     requires w_value { w ≡ four_at bytes.now at }
     requires room { Room Pec bytes colors b at places runs blocks }
-    ensures { Turns Pec (was bytes) (was colors) b at places runs blocks result }
+    ensures { Turns Pec bytes.now colors.now b at places runs blocks result }
 {
     if w % 65536 == 0x00FF {
         return Turn { b, at: bytes.len() };
@@ -165,7 +164,7 @@ fn turn_steps(
     requires at_lt_end { at < end }
     requires by_index { (i : ℕ) → i < end → i + 8 ≤ length bytes.now }
     requires room { Room Pec bytes colors b at places runs blocks }
-    ensures { Turns Pec (was bytes) (was colors) b at places runs blocks result }
+    ensures { Turns Pec bytes.now colors.now b at places runs blocks result }
 {
     let v = eight(bytes, at);
     if two_short(v) {
@@ -199,7 +198,7 @@ pub fn fill_steps(
     blocks: &mut [u32],
 ) -> Builder
     requires { Room Pec bytes colors origin 0 places runs blocks }
-    ensures { Ends Pec (was bytes) (was colors) places runs blocks result }
+    ensures { Ends Pec bytes.now colors.now places runs blocks result }
 {
     let steps = pec_steps();
     let mut b = new();

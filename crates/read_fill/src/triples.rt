@@ -1,7 +1,6 @@
 // DST: one record in a turn. The cuts are counted on the way.
 // A port of src/formats/read.rs of zigzag, changed.
 ghost use Rattle.std.specs.Prelude.{◌≡◌, true, false, ℕ, ◌+◌, ◌≤◌, ◌<◌, length};
-ghost use Rattle.rules.specs.Promises.{was};
 ghost use Rattle.read_records.specs.declared.Row.TheVariants.{Dst};
 ghost use Rattle.read_builder.specs.Builders.{origin};
 ghost use Rattle.read_records.specs.Tables.{DstSteps};
@@ -18,7 +17,7 @@ use read_records::triples::{dst_dx, dst_dy, dst_steps};
 
 // After a turn: the builder; what is counted of the cuts, in numbers that do not lie side by side (see `cuts.rt`); and the place of the
 // next record.
-#[derive(Drop)]
+#[derive(Clone, Copy)]
 struct TripleTurn {
     b: Builder,
     since: u32,
@@ -51,8 +50,8 @@ fn turn_triple(
     requires at_in_bounds { at + 3 ≤ length bytes.now }
     requires room { Room Dst bytes colors b at places runs blocks }
     requires cutting { Cutting bytes.now b since cuts at }
-    ensures turns { Turns Dst (was bytes) (was colors) b at places runs blocks (turn_of result) }
-    ensures cutting_2 { Cutting (was bytes) result.b result.since result.cuts result.at }
+    ensures turns { Turns Dst bytes.now colors.now b at places runs blocks (turn_of result) }
+    ensures cutting_2 { Cutting bytes.now result.b result.since result.cuts result.at }
 {
     let c = bytes[at + 2];
     let dx = dst_dx(xs, bytes[at], bytes[at + 1], c);
@@ -96,8 +95,8 @@ pub fn fill_triples(
     blocks: &mut [u32],
 ) -> Filled
     requires { Room Dst bytes colors origin 0 places runs blocks }
-    ensures ends { Ends Dst (was bytes) (was colors) places runs blocks result.b }
-    ensures rows_of { RowsOf Dst (was bytes) result.rows }
+    ensures ends { Ends Dst bytes.now colors.now places runs blocks result.b }
+    ensures rows_of { RowsOf Dst bytes.now result.rows }
 {
     let xs = dst_steps(false);
     let ys = dst_steps(true);

@@ -1,5 +1,7 @@
 // What is read of a file besides its stitches: numbers, labels, stored colours.
 // A port of src/formats/read.rs of zigzag, changed.
+#![tactic(auto)]
+
 ghost use Rattle.std.specs.Prelude.{◌≡◌, ◌&&◌, [], ◌∷◌, ◌+◌, ◌*◌, ◌≤◌, ◌<◌, min, leb, nat_abs, length, take, drop, get_or};
 ghost use Rattle.rules.specs.Vocabulary.{signed};
 ghost use Rattle.rules.specs.Files.{color_number};
@@ -9,7 +11,6 @@ ghost use Rattle.rules.specs.Layout.{shade_at, charted, from_chart};
 ghost use Rattle.rules.specs.Pec.{pec_entry, pec_stored};
 ghost use Rattle.rules.specs.Jef.{jef_count, jef_entry, jef_stored};
 ghost use Rattle.rules.specs.Charts.{pec_chart, jef_chart};
-ghost use Rattle.rules.specs.Promises.{was, left};
 ghost use Rattle.read_header.specs.Words.{word_of};
 ghost use Rattle.read_header.specs.Scans.{stops_at, until};
 ghost use Rattle.read_header.specs.Lines.{Line};
@@ -19,14 +20,14 @@ ghost use Rattle.read_header.specs.Colors.{Held, Cells, Added};
 use rules::{Color, DST_HEADER, Slot};
 
 // A number, or a file that ends before it.
-#[derive(Drop)]
+#[derive(Clone, Copy)]
 pub enum Word {
     Number(i32),
     Missing,
 }
 
 // A part of a slice, by its place.
-#[derive(Drop)]
+#[derive(Clone, Copy)]
 pub struct Span {
     pub start: usize,
     pub len: usize,
@@ -50,7 +51,7 @@ fn of_bytes(a: u8, b: u8, c: u8, d: u8) -> u32
 }
 
 pub fn i32le(file: &[u8], at: usize) -> Word
-    ensures { result ≡ word_of at (was file) }
+    ensures { result ≡ word_of at file.now }
 {
     if file.len() < 4 {
         return Word::Missing;
@@ -75,7 +76,7 @@ fn is_blank(b: u8) -> bool
 }
 
 // What a scan stops at.
-#[derive(Drop)]
+#[derive(Clone, Copy)]
 enum Stop {
     Text,
     LineEnd,
@@ -97,7 +98,7 @@ fn stops(k: Stop, b: u8) -> bool
 // The first place from `at` on at which a scan stops, or the end.
 fn scan(s: &[u8], at: usize, k: Stop) -> usize
     requires { at ≤ length s.now }
-    ensures { result ≡ at + until (stops_at k) (drop at (was s)) }
+    ensures { result ≡ at + until (stops_at k) (drop at s.now) }
 {
     let mut i = at;
     while i < s.len() {
@@ -111,14 +112,14 @@ fn scan(s: &[u8], at: usize, k: Stop) -> usize
 
 // Where the blanks at the start end.
 fn start_of(s: &[u8]) -> usize
-    ensures { (result ≤ length (was s)) × (drop result (was s) ≡ trim_start (was s)) }
+    ensures { (result ≤ length s.now) × (drop result s.now ≡ trim_start s.now) }
 {
     scan(s, 0, Stop::Text)
 }
 
 // Where the blanks at the end begin.
 fn end_of(s: &[u8]) -> usize
-    ensures { (result ≤ length (was s)) × (take result (was s) ≡ trim_end (was s)) }
+    ensures { (result ≤ length s.now) × (take result s.now ≡ trim_end s.now) }
 {
     let mut e = s.len();
     while 0 < e {
@@ -132,7 +133,7 @@ fn end_of(s: &[u8]) -> usize
 
 // The place k bytes after another, or the slice's end.
 fn ahead(s: &[u8], from: usize, k: usize) -> usize
-    ensures { result ≡ min (from + k) (length (was s)) }
+    ensures { result ≡ min (from + k) (length s.now) }
 {
     let n = s.len();
     if n <= from {
@@ -146,7 +147,7 @@ fn ahead(s: &[u8], from: usize, k: usize) -> usize
 
 // At most len bytes from a place on, cut where the slice ends.
 pub fn part(s: &[u8], from: usize, len: usize) -> &[u8]
-    ensures { result.now ≡ take len (drop from (was s)) }
+    ensures { result.now ≡ take len (drop from s.now) }
 {
     let a = ahead(s, from, 0);
     let e = ahead(s, from, len);
@@ -156,7 +157,7 @@ pub fn part(s: &[u8], from: usize, len: usize) -> &[u8]
 // Where a part of a slice stands without the blanks at both ends.
 pub fn trimmed_at(s: &[u8], start: usize, len: usize) -> Span
     requires { start + len ≤ length s.now }
-    ensures { Holds result (was s) (trimmed (take len (drop start (was s)))) }
+    ensures { Holds result s.now (trimmed (take len (drop start s.now))) }
 {
     let t = part(s, start, len);
     let a = start_of(t);
@@ -169,7 +170,7 @@ pub fn trimmed_at(s: &[u8], start: usize, len: usize) -> Span
 
 // A text without the blanks at both ends.
 pub fn trimmed(s: &[u8]) -> &[u8]
-    ensures { result.now ≡ trimmed (was s) }
+    ensures { result.now ≡ trimmed s.now }
 {
     let p = trimmed_at(s, 0, s.len());
     part(s, p.start, p.len)
@@ -177,7 +178,7 @@ pub fn trimmed(s: &[u8]) -> &[u8]
 
 // Where the label of a PEC part stands that begins at start.
 pub fn pec_label_at(file: &[u8], start: usize) -> Span
-    ensures { Holds result (was file) (trimmed (take 16 (drop (start + 3) (was file)))) }
+    ensures { Holds result file.now (trimmed (take 16 (drop (start + 3) file.now))) }
 {
     let a = ahead(file, start, 3);
     let e = ahead(file, start, 19);
@@ -186,7 +187,7 @@ pub fn pec_label_at(file: &[u8], start: usize) -> Span
 
 // The label of a PEC part that begins at start.
 pub fn pec_label(file: &[u8], start: usize) -> &[u8]
-    ensures { result.now ≡ trimmed (take 16 (drop (start + 3) (was file))) }
+    ensures { result.now ≡ trimmed (take 16 (drop (start + 3) file.now)) }
 {
     let p = pec_label_at(file, start);
     part(file, p.start, p.len)
@@ -194,7 +195,7 @@ pub fn pec_label(file: &[u8], start: usize) -> &[u8]
 
 // Whether a text begins with three given bytes.
 fn is_begun(s: &[u8], a: u8, b: u8, c: u8) -> bool
-    ensures { result ≡ begins (a ∷ b ∷ c ∷ []) (was s) }
+    ensures { result ≡ begins (a ∷ b ∷ c ∷ []) s.now }
 {
     if s.len() < 3 {
         return false;
@@ -211,7 +212,7 @@ fn is_begun(s: &[u8], a: u8, b: u8, c: u8) -> bool
 // Where the line that begins at `at` ends.
 fn line_end(s: &[u8], at: usize) -> usize
     requires { at ≤ length s.now }
-    ensures { Line (was s) at result }
+    ensures { Line s.now at result }
 {
     scan(s, at, Stop::LineEnd)
 }
@@ -219,7 +220,7 @@ fn line_end(s: &[u8], at: usize) -> usize
 // Where the rest of the last line that begins `LA:` stands.
 fn last_label_at(s: &[u8]) -> Span
     requires { length s.now ≤ 512 }
-    ensures { Holds result (was s) (last_label [] (lines_of (was s))) }
+    ensures { Holds result s.now (last_label [] (lines_of s.now)) }
 {
     let mut from = 0;
     let mut to = 0;
@@ -240,7 +241,7 @@ fn last_label_at(s: &[u8]) -> Span
 
 // Where the label of a DST file stands.
 pub fn dst_label_at(file: &[u8]) -> Span
-    ensures { Holds result (was file) (trimmed (last_label [] (lines_of (take 512 (was file))))) }
+    ensures { Holds result file.now (trimmed (last_label [] (lines_of (take 512 file.now)))) }
 {
     let p = last_label_at(part(file, 0, DST_HEADER));
     trimmed_at(file, p.start, p.len)
@@ -248,7 +249,7 @@ pub fn dst_label_at(file: &[u8]) -> Span
 
 // The label of a DST file.
 pub fn dst_label(file: &[u8]) -> &[u8]
-    ensures { result.now ≡ trimmed (last_label [] (lines_of (take 512 (was file)))) }
+    ensures { result.now ≡ trimmed (last_label [] (lines_of (take 512 file.now))) }
 {
     let p = dst_label_at(file);
     part(file, p.start, p.len)
@@ -314,7 +315,7 @@ fn hex_color(r: u32, g: u32, b: u32) -> Slot
 
 // Exactly six bytes as a colour.
 pub fn six_digits(s: &[u8]) -> Slot
-    ensures { result ≡ six_digits (was s) }
+    ensures { result ≡ six_digits s.now }
 {
     if s.len() != 6 {
         return Slot::Empty;
@@ -327,21 +328,21 @@ pub fn six_digits(s: &[u8]) -> Slot
 
 // Where the first comma stands, or the text ends.
 fn comma_of(s: &[u8]) -> usize
-    ensures { (result ≤ length (was s)) × (take result (was s) ≡ before_comma (was s)) }
+    ensures { (result ≤ length s.now) × (take result s.now ≡ before_comma s.now) }
 {
     scan(s, 0, Stop::Comma)
 }
 
 // Where the `#` at the start end.
 fn hashes_of(s: &[u8]) -> usize
-    ensures { (result ≤ length (was s)) × (drop result (was s) ≡ drop_hashes (was s)) }
+    ensures { (result ≤ length s.now) × (drop result s.now ≡ drop_hashes s.now) }
 {
     scan(s, 0, Stop::PastHashes)
 }
 
 // The colour of a text that may go on after a comma.
 fn text_color(s: &[u8]) -> Slot
-    ensures { result ≡ six_digits (drop_hashes (trimmed (before_comma (was s)))) }
+    ensures { result ≡ six_digits (drop_hashes (trimmed (before_comma s.now))) }
 {
     let e = comma_of(s);
     let t = trimmed(&s[..e]);
@@ -351,7 +352,7 @@ fn text_color(s: &[u8]) -> Slot
 
 // The colour of a `TC:` line.
 pub fn line_color(line: &[u8]) -> Slot
-    ensures { result ≡ line_color (was line) }
+    ensures { result ≡ line_color line.now }
 {
     if is_begun(line, 0x54, 0x43, 0x3A) {
         return text_color(part(line, 3, line.len()));
@@ -376,7 +377,7 @@ fn cell_of(entry: u8, c: Color) -> u32
 // Puts a colour of no chart at cell n, if there is one, and reports the next cell.
 fn put_color(s: Slot, n: usize, colors: &mut [u32]) -> usize
     requires { n < length colors.old }
-    ensures { Added s n (was colors) result (left colors) }
+    ensures { Added s n colors.old result colors.new }
 {
     let Slot::Thread(c) = s else {
         return n;
@@ -388,7 +389,7 @@ fn put_color(s: Slot, n: usize, colors: &mut [u32]) -> usize
 // The colours of the `TC:` lines of a text.
 fn line_colors(s: &[u8], colors: &mut [u32]) -> usize
     requires { (length s.now ≤ 512) × (256 ≤ length colors.old) }
-    ensures { Cells (shade_at (line_colors (lines_of (was s)))) (left colors) result }
+    ensures { Cells (shade_at (line_colors (lines_of s.now))) colors.new result }
 {
     let mut n = 0;
     let mut at = 0;
@@ -404,14 +405,14 @@ fn line_colors(s: &[u8], colors: &mut [u32]) -> usize
 // The colours of a DST file.
 pub fn dst_colors(file: &[u8], colors: &mut [u32]) -> usize
     requires { 256 ≤ length colors.old }
-    ensures { Cells (shade_at (line_colors (lines_of (take 512 (was file))))) (left colors) result }
+    ensures { Cells (shade_at (line_colors (lines_of (take 512 file.now)))) colors.new result }
 {
     line_colors(part(file, 0, DST_HEADER), colors)
 }
 
 // The byte k places after start; 0 where the file has ended.
 fn byte_at(file: &[u8], start: usize, k: usize) -> u8
-    ensures { result ≡ get_or (was file) (start + k) 0 }
+    ensures { result ≡ get_or file.now (start + k) 0 }
 {
     if file.len() <= start {
         return 0;
@@ -425,7 +426,7 @@ fn byte_at(file: &[u8], start: usize, k: usize) -> u8
 // The cell of block k of a PEC part.
 fn pec_cell(file: &[u8], start: usize, k: usize) -> u32
     requires { k < 256 }
-    ensures { Held (from_chart pec_chart (pec_entry start (was file) k)) result }
+    ensures { Held (from_chart pec_chart (pec_entry start file.now k)) result }
 {
     let entry = byte_at(file, start, 49 + k) % 65;
     cell_of(entry, pec_data::pec_thread(entry as usize))
@@ -435,7 +436,7 @@ fn pec_cell(file: &[u8], start: usize, k: usize) -> u32
 pub fn pec_colors(file: &[u8], start: usize, count: u8, colors: &mut [u32]) -> usize
     requires in_bounds { 256 ≤ length colors.old }
     requires count_value { count ≡ get_or file.now (start + 48) 0 }
-    ensures { Cells (pec_stored start (was file)) (left colors) result }
+    ensures { Cells (pec_stored start file.now) colors.new result }
 {
     let n = (count as usize) + 1;
     let mut k = 0;
@@ -459,7 +460,7 @@ fn magnitude(z: i32) -> usize
 
 // How many colours a JEF file says that it has, at most 256.
 fn jef_count(file: &[u8]) -> usize
-    ensures { result ≡ jef_count (was file) }
+    ensures { result ≡ jef_count file.now }
 {
     let w = i32le(file, 24);
     let Word::Number(z) = w else {
@@ -478,7 +479,7 @@ fn jef_count(file: &[u8]) -> usize
 // The cell of block k of a JEF file, whose entry is wholly there.
 fn jef_cell(file: &[u8], k: usize) -> u32
     requires { (k < 256) × (120 + 4 * k ≤ length file.now) }
-    ensures { Held (from_chart jef_chart (jef_entry (was file) k)) result }
+    ensures { Held (from_chart jef_chart (jef_entry file.now k)) result }
 {
     let w = i32le(file, 116 + 4 * k);
     let Word::Number(z) = w else {
@@ -491,7 +492,7 @@ fn jef_cell(file: &[u8], k: usize) -> u32
 // The colours of a JEF file: as many as it says, as far as they are in the file.
 pub fn jef_colors(file: &[u8], colors: &mut [u32]) -> usize
     requires { 256 ≤ length colors.old }
-    ensures { Cells (jef_stored (was file)) (left colors) result }
+    ensures { Cells (jef_stored file.now) colors.new result }
 {
     let n = jef_count(file);
     let mut k = 0;

@@ -1,29 +1,30 @@
 // The fields of a job: the tag, the length and the content of the one at a place, or why the job is refused there.
+#![tactic(auto)]
+
 ghost use Rattle.std.specs.Prelude.{◌≡◌, ◌+◌, ◌≤◌, ◌<◌, length, take, drop, get_or};
 ghost use Rattle.rules.specs.Vocabulary.{signed, from_little};
 ghost use Rattle.rules.specs.Jobs.{follows, length_allowed};
-ghost use Rattle.rules.specs.Promises.{was};
 ghost use Rattle.read_job_fields.specs.Fields.{tag_by, length_by, FieldRead};
 
 use read_records::bytes::signed16;
 use rules::{LONGEST_NAME, Refusal};
 
 // A tag that may stand where it does, or not.
-#[derive(Drop)]
+#[derive(Clone, Copy)]
 pub enum Tag {
     Is(u8),
     Bad,
 }
 
 // A length that its tag may have, of a content that is there, or not.
-#[derive(Drop)]
+#[derive(Clone, Copy)]
 pub enum Length {
     Is(usize),
     Bad,
 }
 
 // A field, whose content is from `start` to before `end`, or why the job is refused at its tag or length.
-#[derive(Drop)]
+#[derive(Clone, Copy)]
 pub enum Field {
     At { tag: u8, start: usize, end: usize },
     Not(Refusal),
@@ -32,7 +33,7 @@ pub enum Field {
 // A number of two bytes, the low byte first.
 pub fn le16(job: &[u8], at: usize) -> usize
     requires { at + 2 ≤ length job.now }
-    ensures { (result ≡ from_little (take 2 (drop at (was job)))) × (result < 65536) }
+    ensures { (result ≡ from_little (take 2 (drop at job.now))) × (result < 65536) }
 {
     (job[at] as usize) + 256 * (job[at + 1] as usize)
 }
@@ -40,7 +41,7 @@ pub fn le16(job: &[u8], at: usize) -> usize
 // 16 bits in two's complement, the low byte first.
 pub fn i16le(job: &[u8], at: usize) -> i32
     requires { at + 2 ≤ length job.now }
-    ensures { result ≡ signed 15 (from_little (take 2 (drop at (was job)))) }
+    ensures { result ≡ signed 15 (from_little (take 2 (drop at job.now))) }
 {
     signed16(le16(job, at) as u32)
 }
@@ -75,7 +76,7 @@ fn is_length(tag: u8, len: usize) -> bool
 
 fn tag_at(job: &[u8], at: usize, before: u8) -> Tag
     requires { at < length job.now }
-    ensures { result ≡ tag_by before (get_or (was job) at 0) }
+    ensures { result ≡ tag_by before (get_or job.now at 0) }
 {
     let tag = job[at];
     if is_next(before, tag) {
@@ -87,7 +88,7 @@ fn tag_at(job: &[u8], at: usize, before: u8) -> Tag
 // The length that stands at `at`.
 fn length_at(job: &[u8], at: usize, tag: u8) -> Length
     requires { at ≤ length job.now }
-    ensures { result ≡ length_by tag (drop at (was job)) }
+    ensures { result ≡ length_by tag (drop at job.now) }
 {
     if job.len() - at < 2 {
         return Length::Bad;
@@ -105,7 +106,7 @@ fn length_at(job: &[u8], at: usize, tag: u8) -> Length
 // The field at a place, behind one with the tag `before`, 0 at the front.
 pub fn field_at(job: &[u8], at: usize, before: u8) -> Field
     requires { at < length job.now }
-    ensures { FieldRead (was job) before at result }
+    ensures { FieldRead job.now before at result }
 {
     let Tag::Is(tag) = tag_at(job, at, before) else {
         return Field::Not(Refusal::BadTag);

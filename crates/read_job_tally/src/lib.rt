@@ -1,7 +1,8 @@
 // What the commands of a job come to, gathered in one pass over their bytes: refusals 6 to 9 are told from it.
+#![tactic(auto)]
+
 ghost use Rattle.std.specs.Prelude.{◌≡◌, false, ◌+◌, ◌≤◌, ◌<◌, length};
 ghost use Rattle.rules.specs.Jobs.{rows_of};
-ghost use Rattle.rules.specs.Promises.{was};
 ghost use Rattle.laws.specs.Jobs.{row_at};
 ghost use Rattle.read_job_tally.specs.Tallies.{no_tally, counted, tallied, bad_tally, many_tally, tally_verdict, Spare};
 
@@ -11,7 +12,7 @@ use write_refusals::{is_change, is_placed, moves};
 
 // Of the commands so far: how many, how many colour changes, the last place, whether the last is an end and whether an earlier one is,
 // whether a kind is unknown, a place outside the range, a trim, colour change or end moved.
-#[derive(Drop)]
+#[derive(Clone, Copy)]
 pub struct Tally {
     pub commands: u32,
     pub changes: u32,
@@ -63,7 +64,7 @@ fn with_cmd(t: Tally, kind: u8, x: i32, y: i32) -> Tally
 fn with_row(t: Tally, bytes: &[u8], at: usize) -> Tally
     requires changes_le_commands { (t.changes ≤ t.commands) × (t.commands < 4294967295) }
     requires at_in_bounds { at + 5 ≤ length bytes.now }
-    ensures { result ≡ counted t (row_at (was bytes) at) }
+    ensures { result ≡ counted t (row_at bytes.now at) }
 {
     let x = i16le(bytes, at + 1);
     let y = i16le(bytes, at + 3);
@@ -73,7 +74,7 @@ fn with_row(t: Tally, bytes: &[u8], at: usize) -> Tally
 // The commands of a field's content.
 pub fn with_rows(t: Tally, bytes: &[u8]) -> Tally
     requires { Spare t (length bytes.now) }
-    ensures { result ≡ tallied t (rows_of (was bytes)) }
+    ensures { result ≡ tallied t (rows_of bytes.now) }
 {
     let mut now = t;
     let mut at = 0;

@@ -4,7 +4,6 @@ ghost use Rattle.std.specs.Prelude.{◌≡◌, [], ◌∷◌, ◌++◌, ◌+◌,
 ghost use Rattle.std.proofs.lemmas.List.Edits.{sets};
 ghost use Rattle.rules.specs.Answers.{start_of, run_of, block_of};
 ghost use Rattle.rules.specs.Limits.{block_cells_of};
-ghost use Rattle.rules.specs.Promises.{was, left};
 ghost use Rattle.read_records.specs.Fields.{dx_of, dy_of};
 ghost use Rattle.read_builder.specs.Builders.{Small, Reach, stitched, jumped, changed, followed, places_by, runs_by, blocks_by, Holds};
 ghost use Rattle.read_builder.specs.Colour.{colour_in};
@@ -16,7 +15,7 @@ use rules::{BLOCK_CELLS, Record};
 // Point i of all points.
 fn put_point(places: &mut [i32], i: u32, x: i32, y: i32)
     requires { 2 * i + 2 ≤ length places.old }
-    ensures { left places ≡ sets (was places) (2 * i) (x ∷ y ∷ []) }
+    ensures { places.new ≡ sets places.old (2 * i) (x ∷ y ∷ []) }
 {
     let at = 2 * (i as usize);
     places[at] = x;
@@ -26,7 +25,7 @@ fn put_point(places: &mut [i32], i: u32, x: i32, y: i32)
 // The open run, if there is one.
 pub fn put_run(b: Builder, runs: &mut [u32])
     requires { b.runs + length (run_of b.run) ≤ length runs.old }
-    ensures { left runs ≡ sets (was runs) b.runs (run_of b.run) }
+    ensures { runs.new ≡ sets runs.old b.runs (run_of b.run) }
 {
     if b.run == 0 {
         return;
@@ -38,7 +37,7 @@ pub fn put_run(b: Builder, runs: &mut [u32])
 // The block, if it has runs: number, colour, runs.
 pub fn put_block(b: Builder, color: u32, blocks: &mut [u32])
     requires { block_cells_of * b.blocks + length (block_of (λ k. color) b.block b.begun) ≤ length blocks.old }
-    ensures { left blocks ≡ sets (was blocks) (block_cells_of * b.blocks) (block_of (λ k. color) b.block b.begun) }
+    ensures { blocks.new ≡ sets blocks.old (block_cells_of * b.blocks) (block_of (λ k. color) b.block b.begun) }
 {
     if b.begun == 0 {
         return;
@@ -53,8 +52,8 @@ pub fn put_block(b: Builder, color: u32, blocks: &mut [u32])
 pub fn close(b: Builder, colors: &[u32], runs: &mut [u32], blocks: &mut [u32])
     requires run_in_bounds { b.runs + length (run_of b.run) ≤ length runs.old }
     requires begun_in_bounds { block_cells_of * b.blocks + length (block_of (colour_in colors.now) b.block b.begun) ≤ length blocks.old }
-    ensures runs_value { left runs ≡ sets (was runs) b.runs (run_of b.run) }
-    ensures blocks_value { left blocks ≡ sets (was blocks) (block_cells_of * b.blocks) (block_of (colour_in (was colors)) b.block b.begun) }
+    ensures runs_value { runs.new ≡ sets runs.old b.runs (run_of b.run) }
+    ensures blocks_value { blocks.new ≡ sets blocks.old (block_cells_of * b.blocks) (block_of (colour_in colors.now) b.block b.begun) }
 {
     put_run(b, runs);
     put_block(b, color_of(colors, b.block), blocks);
@@ -67,7 +66,7 @@ pub fn sew(b: Builder, dx: i32, dy: i32, places: &mut [i32]) -> Builder
     requires reach { Reach b dx dy }
     requires y_in_bounds { 2 * b.points + (length (start_of b.run b.x b.y) + 2) ≤ length places.old }
     ensures value { result ≡ stitched b (b.x +ℤ dx) (b.y +ℤ dy) }
-    ensures places_value { left places ≡ sets (was places) (2 * b.points) (start_of b.run b.x b.y ++ (b.x +ℤ dx) ∷ (b.y +ℤ dy) ∷ []) }
+    ensures places_value { places.new ≡ sets places.old (2 * b.points) (start_of b.run b.x b.y ++ (b.x +ℤ dx) ∷ (b.y +ℤ dy) ∷ []) }
 {
     let x = sum(b.x, dx);
     let y = sum(b.y, dy);
@@ -86,7 +85,7 @@ pub fn hop(b: Builder, dx: i32, dy: i32, runs: &mut [u32]) -> Builder
     requires reach { Reach b dx dy }
     requires run_in_bounds { b.runs + length (run_of b.run) ≤ length runs.old }
     ensures value { result ≡ jumped b (b.x +ℤ dx) (b.y +ℤ dy) }
-    ensures runs_value { left runs ≡ sets (was runs) b.runs (run_of b.run) }
+    ensures runs_value { runs.new ≡ sets runs.old b.runs (run_of b.run) }
 {
     let x = sum(b.x, dx);
     let y = sum(b.y, dy);
@@ -111,8 +110,8 @@ pub fn change(
     requires run_in_bounds { b.runs + length (run_of b.run) ≤ length runs.old }
     requires begun_in_bounds { block_cells_of * b.blocks + length (block_of (colour_in colors.now) b.block b.begun) ≤ length blocks.old }
     ensures value { result ≡ changed b (b.x +ℤ dx) (b.y +ℤ dy) }
-    ensures runs_value { left runs ≡ sets (was runs) b.runs (run_of b.run) }
-    ensures blocks_value { left blocks ≡ sets (was blocks) (block_cells_of * b.blocks) (block_of (colour_in (was colors)) b.block b.begun) }
+    ensures runs_value { runs.new ≡ sets runs.old b.runs (run_of b.run) }
+    ensures blocks_value { blocks.new ≡ sets blocks.old (block_cells_of * b.blocks) (block_of (colour_in colors.now) b.block b.begun) }
 {
     let x = sum(b.x, dx);
     let y = sum(b.y, dy);
@@ -133,9 +132,9 @@ pub fn write(
     requires reach { Reach b (dx_of r) (dy_of r) }
     requires holds { Holds (colour_in colors.now) b r (length places.old) (length runs.old) (length blocks.old) }
     ensures value { result ≡ followed b r (b.x +ℤ dx_of r) (b.y +ℤ dy_of r) }
-    ensures places_value { left places ≡ sets (was places) (2 * b.points) (places_by b r) }
-    ensures runs_value { left runs ≡ sets (was runs) b.runs (runs_by b r) }
-    ensures blocks_value { left blocks ≡ sets (was blocks) (block_cells_of * b.blocks) (blocks_by (colour_in (was colors)) b r) }
+    ensures places_value { places.new ≡ sets places.old (2 * b.points) (places_by b r) }
+    ensures runs_value { runs.new ≡ sets runs.old b.runs (runs_by b r) }
+    ensures blocks_value { blocks.new ≡ sets blocks.old (block_cells_of * b.blocks) (blocks_by (colour_in colors.now) b r) }
 {
     match r {
         Record::StitchBy { dx, dy, .. } => sew(b, dx, dy, places),

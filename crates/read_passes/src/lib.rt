@@ -1,12 +1,13 @@
 // The two passes over the records of a file, in what they share: what a record adds to the answers, and the plain loop.
 // A port of src/formats/read.rs of zigzag, changed.
+#![tactic(auto)]
+
 pub mod answers;
 
 ghost use Rattle.std.specs.Prelude.{true, ◌≡◌, ℕ, ◌+◌, ◌*◌, ◌≤◌, ◌<◌, length};
 ghost use Rattle.std.proofs.lemmas.List.Edits.{sets};
 ghost use Rattle.rules.specs.Answers.{run_of, block_of};
 ghost use Rattle.rules.specs.Limits.{block_cells_of};
-ghost use Rattle.rules.specs.Promises.{was, left};
 ghost use Rattle.read_builder.specs.Builders.{Small, Counted, finished};
 ghost use Rattle.read_builder.specs.Colour.{colour_in};
 ghost use Rattle.read_passes.specs.Told.{Ample, sizes_of};
@@ -18,7 +19,7 @@ use read_records::{Row, record_at};
 use rules::{BLOCK_CELLS, Counts};
 
 // How much the answers hold: points, runs and blocks listed.
-#[derive(Drop)]
+#[derive(Clone, Copy)]
 pub struct Sizes {
     pub points: u32,
     pub runs: u32,
@@ -47,7 +48,7 @@ pub fn fill_rest(
     blocks: &mut [u32],
 ) -> Builder
     requires { Ready f bytes.now (colour_in colors.now) first from (length places.old) (length runs.old) (length blocks.old) }
-    ensures { Ended f (was bytes) (colour_in (was colors)) first from (was places) (was runs) (was blocks) result (left places) (left runs) (left blocks) }
+    ensures { Ended f bytes.now (colour_in colors.now) first from places.old runs.old blocks.old result places.new runs.new blocks.new }
 {
     let mut b = first;
     let mut at = from;
@@ -66,8 +67,8 @@ pub fn settle(b: Builder, colors: &[u32], runs: &mut [u32], blocks: &mut [u32]) 
     requires run_in_bounds { b.runs + length (run_of b.run) ≤ length runs.old }
     requires begun_in_bounds { block_cells_of * b.blocks + length (block_of (colour_in colors.now) b.block b.begun) ≤ length blocks.old }
     ensures counted { Counted (finished b) result }
-    ensures runs_value { left runs ≡ sets (was runs) b.runs (run_of b.run) }
-    ensures blocks_value { left blocks ≡ sets (was blocks) (block_cells_of * b.blocks) (block_of (colour_in (was colors)) b.block b.begun) }
+    ensures runs_value { runs.new ≡ sets runs.old b.runs (run_of b.run) }
+    ensures blocks_value { blocks.new ≡ sets blocks.old (block_cells_of * b.blocks) (block_of (colour_in colors.now) b.block b.begun) }
 {
     close(b, colors, runs, blocks);
     counts(finish(b))

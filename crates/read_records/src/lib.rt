@@ -1,5 +1,7 @@
 // What stands at a place of a file: the record there, in each format that is a row of records.
 // A port of src/formats/read.rs of zigzag, changed.
+#![tactic(auto)]
+
 pub mod bytes;
 pub mod pair;
 pub mod steps;
@@ -8,7 +10,6 @@ pub mod words;
 
 ghost use Rattle.std.specs.Prelude.{◌≡◌, drop};
 ghost use Rattle.read_records.specs.Firsts.{first_record_of};
-ghost use Rattle.rules.specs.Promises.{was};
 
 use crate::pair::exp_record;
 use crate::steps::pec_record;
@@ -16,7 +17,7 @@ use crate::triples::dst_record;
 use rules::Record;
 
 // The formats whose files are a row of records; PES has PEC's.
-#[derive(Drop)]
+#[derive(Clone, Copy)]
 pub enum Row {
     Pec,
     Dst,
@@ -26,7 +27,7 @@ pub enum Row {
 
 // One record, from byte `at` of the stitches; `Finish` from their end on.
 pub fn record_at(f: Row, file: &[u8], at: usize) -> Record
-    ensures { result ≡ first_record_of f (drop at (was file)) }
+    ensures { result ≡ first_record_of f (drop at file.now) }
 {
     match f {
         Row::Pec => pec_record(file, at),

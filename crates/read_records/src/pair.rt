@@ -2,7 +2,6 @@
 // A port of src/formats/read.rs of zigzag, changed.
 ghost use Rattle.std.specs.Prelude.{◌≡◌, eqb, pos, neg_ℤ, drop};
 ghost use Rattle.rules.specs.Exp.{two, control, pair_first};
-ghost use Rattle.rules.specs.Promises.{was};
 ghost use Rattle.rules.specs.Vocabulary.{pick, signed};
 ghost use Rattle.read_records.specs.Firsts.{pair_row};
 ghost use Rattle.read_records.specs.Tables.{Kinds};
@@ -92,7 +91,7 @@ pub fn row_of(jef: bool) -> Row
 
 // `read_exp_like`, one record of it.
 pub fn exp_record(jef: bool, file: &[u8], at: usize) -> Record
-    ensures { result ≡ pair_first jef (drop at (was file)) }
+    ensures { result ≡ pair_first jef (drop at file.now) }
 {
     if file.len() < 2 {
         return Record::Finish;

@@ -3,7 +3,6 @@
 ghost use Rattle.std.specs.Prelude.{◌≡◌, ltb, pos, drop};
 ghost use Rattle.rules.specs.Vocabulary.{pick};
 ghost use Rattle.rules.specs.Pec.{axis_of, pec_first};
-ghost use Rattle.rules.specs.Promises.{was};
 ghost use Rattle.rules.specs.declared.Record.TheVariants.{StitchBy, JumpBy, ChangeBy, Finish};
 ghost use Rattle.read_records.specs.Axes.{axis_from};
 
@@ -11,7 +10,7 @@ use crate::bytes::{signed7, signed12};
 use rules::Record;
 
 // A step of 1 or 2 bytes, and whether it says jump (0x10 or 0x20 in the first of two); `Missing` where the file ends first.
-#[derive(Drop)]
+#[derive(Clone, Copy)]
 pub enum Axis {
     Step { marked: bool, step: i32, len: usize },
     Missing,
@@ -19,7 +18,7 @@ pub enum Axis {
 
 // A top bit that is set makes a step two bytes.
 fn step_at(file: &[u8], at: usize) -> Axis
-    ensures { axis_from result ≡ axis_of (drop at (was file)) }
+    ensures { axis_from result ≡ axis_of (drop at file.now) }
 {
     if file.len() <= at {
         return Axis::Missing;
@@ -69,7 +68,7 @@ fn change(left: usize) -> Record
 
 // `read_pec`, one record of it.
 pub fn pec_record(file: &[u8], at: usize) -> Record
-    ensures { result ≡ pec_first (drop at (was file)) }
+    ensures { result ≡ pec_first (drop at file.now) }
 {
     if file.len() < 2 {
         return Record::Finish;

@@ -2,7 +2,6 @@
 // A port of src/formats/read.rs of zigzag, changed.
 ghost use Rattle.std.specs.Prelude.{◌≡◌, true, false, ◌/◌, ◌%◌, ◌<◌, drop};
 ghost use Rattle.rules.specs.Dst.{dst_x, dst_y, dst_record, dst_first};
-ghost use Rattle.rules.specs.Promises.{was};
 ghost use Rattle.read_records.specs.Digits.{pair_digit, dst_step, axis_bits};
 ghost use Rattle.read_records.specs.Tables.{DstSteps};
 
@@ -119,7 +118,7 @@ fn kind(c: u8, dx: i32, dy: i32) -> Record
 
 // `read_dst`, one record of it.
 pub fn dst_record(file: &[u8], at: usize) -> Record
-    ensures { result ≡ dst_first (drop at (was file)) }
+    ensures { result ≡ dst_first (drop at file.now) }
 {
     if file.len() < 3 {
         return Record::Finish;

@@ -1,7 +1,6 @@
 // PEC records by whole words, so that the loops over them need few tests.
 // A port of src/formats/read.rs of zigzag, changed.
 ghost use Rattle.std.specs.Prelude.{◌≡◌, ◌&&◌, ◌+◌, ◌*◌, ◌/◌, ◌%◌, ◌≤◌, ◌<◌, pos, length};
-ghost use Rattle.rules.specs.Promises.{was};
 ghost use Rattle.rules.specs.Vocabulary.{pick};
 ghost use Rattle.read_records.specs.Tables.{PecSteps};
 ghost use Rattle.read_records.specs.Words.{four_at, eight_at, past_step, axis_step, first_part, plain_step, masked};
@@ -11,7 +10,7 @@ use crate::bytes::{signed7, signed12};
 // Four bytes as one number, the first lowest.
 pub fn four(file: &[u8], at: usize) -> u32
     requires { at + 4 ≤ length file.now }
-    ensures { result ≡ four_at (was file) at }
+    ensures { result ≡ four_at file.now at }
 {
     let a = file[at] as u32;
     let b = file[at + 1] as u32;
@@ -22,7 +21,7 @@ pub fn four(file: &[u8], at: usize) -> u32
 
 pub fn eight(file: &[u8], at: usize) -> u64
     requires { at + 8 ≤ length file.now }
-    ensures { result ≡ eight_at (was file) at }
+    ensures { result ≡ eight_at file.now at }
 {
     let low = four(file, at) as u64;
     let high = four(file, at + 4) as u64;

@@ -1,12 +1,13 @@
 // What a file's first bytes tell: whether the file is refused, what its reading goes on from, and its label.
 // A port of src/formats/read.rs of zigzag, changed.
+#![tactic(auto)]
+
 ghost use Rattle.std.specs.Prelude.{◌≡◌, [], ◌∷◌, ◌≤◌, length};
 ghost use Rattle.read_header.specs.Spans.{Holds};
 ghost use Rattle.rules.specs.Files.{file_verdict, label_told};
 ghost use Rattle.rules.specs.Text.{begins};
 ghost use Rattle.rules.specs.Vp3.{vp3_opening};
 ghost use Rattle.rules.specs.Refusals.{extension_of};
-ghost use Rattle.rules.specs.Promises.{was};
 ghost use Rattle.rules.specs.declared.Extension.TheVariants.{Of};
 ghost use Rattle.read_refusals.specs.Labels.{label_answered};
 ghost use Rattle.read_refusals.specs.Openings.{byte_of, label_by, pec_front, pes_front, dst_front, jef_front, vp3_front, front_of};
@@ -17,7 +18,7 @@ use read_vp3::{Checked, check};
 use rules::{Counts, DST_HEADER, Extension, Format, LONGEST_FILE, Refusal};
 
 // A byte, or a file that ends before it.
-#[derive(Drop)]
+#[derive(Clone, Copy)]
 pub enum Byte {
     Value(u8),
     Missing,
@@ -25,7 +26,7 @@ pub enum Byte {
 
 // What the reading of a file goes on from: a PEC part's start and its count byte, a JEF file's offset, what the answers of a VP3 file
 // hold.
-#[derive(Drop)]
+#[derive(Clone, Copy)]
 pub enum Head {
     Pec { start: usize, count: u8 },
     Dst,
@@ -35,14 +36,14 @@ pub enum Head {
 }
 
 // That, or why the file is refused.
-#[derive(Drop)]
+#[derive(Clone, Copy)]
 pub enum Opening {
     At(Head),
     Not(Refusal),
 }
 
 // Where the label stands, or why the file is refused.
-#[derive(Drop)]
+#[derive(Clone, Copy)]
 pub enum LabelAnswer {
     Found(Span),
     Not(Refusal),
@@ -50,7 +51,7 @@ pub enum LabelAnswer {
 
 // The byte k places after start.
 fn byte_of(file: &[u8], start: usize, k: usize) -> Byte
-    ensures { result ≡ byte_of start k (was file) }
+    ensures { result ≡ byte_of start k file.now }
 {
     if file.len() <= start {
         return Byte::Missing;
@@ -63,7 +64,7 @@ fn byte_of(file: &[u8], start: usize, k: usize) -> Byte
 
 // `#PES` at the front.
 fn begins_pes(file: &[u8]) -> bool
-    ensures { result ≡ begins (0x23 ∷ 0x50 ∷ 0x45 ∷ 0x53 ∷ []) (was file) }
+    ensures { result ≡ begins (0x23 ∷ 0x50 ∷ 0x45 ∷ 0x53 ∷ []) file.now }
 {
     if file.len() < 4 {
         return false;
@@ -82,7 +83,7 @@ fn begins_pes(file: &[u8]) -> bool
 
 // A PEC part must have its count byte.
 fn pec_front(file: &[u8], start: usize) -> Opening
-    ensures { result ≡ pec_front start (was file) }
+    ensures { result ≡ pec_front start file.now }
 {
     let Byte::Value(count) = byte_of(file, start, 48) else {
         return Opening::Not(Refusal::FileTooShort);
@@ -92,7 +93,7 @@ fn pec_front(file: &[u8], start: usize) -> Opening
 
 // A PES says where its PEC part begins.
 fn pes_front(file: &[u8]) -> Opening
-    ensures { result ≡ pes_front (was file) }
+    ensures { result ≡ pes_front file.now }
 {
     if !begins_pes(file) {
         return Opening::Not(Refusal::BadOpening);
@@ -107,7 +108,7 @@ fn pes_front(file: &[u8]) -> Opening
 }
 
 fn dst_front(file: &[u8]) -> Opening
-    ensures { result ≡ dst_front (was file) }
+    ensures { result ≡ dst_front file.now }
 {
     if file.len() < DST_HEADER {
         return Opening::Not(Refusal::FileTooShort);
@@ -116,7 +117,7 @@ fn dst_front(file: &[u8]) -> Opening
 }
 
 fn jef_front(file: &[u8]) -> Opening
-    ensures { result ≡ jef_front (was file) }
+    ensures { result ≡ jef_front file.now }
 {
     let Word::Number(offset) = i32le(file, 0) else {
         return Opening::Not(Refusal::FileTooShort);
@@ -126,7 +127,7 @@ fn jef_front(file: &[u8]) -> Opening
 
 // `%vsm%` and a zero byte at the front.
 fn begins_vp3(file: &[u8]) -> bool
-    ensures { result ≡ begins vp3_opening (was file) }
+    ensures { result ≡ begins vp3_opening file.now }
 {
     if file.len() < 6 {
         return false;
@@ -152,7 +153,7 @@ fn begins_vp3(file: &[u8]) -> bool
 // A VP3 file is gone through to its end.
 fn vp3_front(file: &[u8]) -> Opening
     requires { length file.now ≤ 2097152 }
-    ensures { result ≡ vp3_front (was file) }
+    ensures { result ≡ vp3_front file.now }
 {
     if begins_vp3(file) {
         return match check(file) {
@@ -165,7 +166,7 @@ fn vp3_front(file: &[u8]) -> Opening
 
 // Refusals 2 to 5 and 12, and what the reading goes on from if there is none of them.
 pub fn front(f: Format, file: &[u8]) -> Opening
-    ensures { result ≡ front_of f (was file) }
+    ensures { result ≡ front_of f file.now }
 {
     if LONGEST_FILE < file.len() {
         return Opening::Not(Refusal::FileTooLong);
@@ -182,7 +183,7 @@ pub fn front(f: Format, file: &[u8]) -> Opening
 
 // Where the label of a file stands whose opening is known.
 fn label_of_at(head: Head, file: &[u8]) -> Span
-    ensures { Holds result (was file) (label_by head (was file)) }
+    ensures { Holds result file.now (label_by head file.now) }
 {
     match head {
         Head::Pec { start, .. } => pec_label_at(file, start),
@@ -195,7 +196,7 @@ fn label_of_at(head: Head, file: &[u8]) -> Span
 
 // Where the label of a file of format f stands, or why the file is refused.
 fn label_answer_in(f: Format, file: &[u8]) -> LabelAnswer
-    ensures { label_answered (file_verdict (Of f) (was file)) (was file) (label_told (Of f) (was file)) result }
+    ensures { label_answered (file_verdict (Of f) file.now) file.now (label_told (Of f) file.now) result }
 {
     let found = front(f, file);
     match found {
@@ -206,7 +207,7 @@ fn label_answer_in(f: Format, file: &[u8]) -> LabelAnswer
 
 // Where the label of a file stands, or why the file is refused: every refusal of reading but 11.
 pub fn label_answer(ext: &[u8], file: &[u8]) -> LabelAnswer
-    ensures { label_answered (file_verdict (extension_of (was ext)) (was file)) (was file) (label_told (extension_of (was ext)) (was file)) result }
+    ensures { label_answered (file_verdict (extension_of ext.now) file.now) file.now (label_told (extension_of ext.now) file.now) result }
 {
     let named = extension_of(ext);
     let Extension::Of(f) = named else {
@@ -217,7 +218,7 @@ pub fn label_answer(ext: &[u8], file: &[u8]) -> LabelAnswer
 
 // Where the label of a file stands: nothing, at its start, under a refusal.
 pub fn label_at(ext: &[u8], file: &[u8]) -> Span
-    ensures { Holds result (was file) (label_told (extension_of (was ext)) (was file)) }
+    ensures { Holds result file.now (label_told (extension_of ext.now) file.now) }
 {
     let answer = label_answer(ext, file);
     let LabelAnswer::Found(p) = answer else {
@@ -228,7 +229,7 @@ pub fn label_at(ext: &[u8], file: &[u8]) -> Span
 
 // The label of a file, as a part of it: empty for EXP, JEF and VP3, and under every refusal of reading but 11.
 pub fn label<'a>(ext: &[u8], file: &'a [u8]) -> &'a [u8]
-    ensures { result.now ≡ label_told (extension_of (was ext)) (was file) }
+    ensures { result.now ≡ label_told (extension_of ext.now) file.now }
 {
     let p = label_at(ext, file);
     part(file, p.start, p.len)

@@ -1,6 +1,7 @@
 // VP3 files: a first pass finds the first fault, or what the answers hold; a second one writes the answers.
+#![tactic(auto)]
+
 ghost use Rattle.std.specs.Prelude.{◌≡◌, suc, ◌≤◌, pos, length};
-ghost use Rattle.rules.specs.Promises.{was, left};
 ghost use Rattle.rules.specs.Vp3.{blocks_from, vp3_blocks, fault_in};
 ghost use Rattle.rules.specs.declared.Verdict.TheVariants.{Accepted};
 ghost use Rattle.read_vp3_fields.specs.Fields.{within};
@@ -17,7 +18,7 @@ use read_vp3_stitches::follow::{Followed, follow};
 use rules::{Counts, Refusal};
 
 // What has been counted, where the next block starts, and where its fields begin.
-#[derive(Drop)]
+#[derive(Clone, Copy)]
 struct Walker {
     t: Tally,
     x: i32,
@@ -26,14 +27,14 @@ struct Walker {
 }
 
 // That, or why the file is refused.
-#[derive(Drop)]
+#[derive(Clone, Copy)]
 enum Walk {
     On(Walker),
     Not(Refusal),
 }
 
 // What the answers of a file hold, or why it is refused.
-#[derive(Drop)]
+#[derive(Clone, Copy)]
 pub enum Checked {
     Sound(Counts),
     Not(Refusal),
@@ -42,7 +43,7 @@ pub enum Checked {
 // The stitches of a block.
 fn check_stitches(file: &[u8], k: Block, w: Walker) -> Walk
     requires { Stands file.now (length file.now) w × Lies (length file.now) k w }
-    ensures { result ≡ walk_of (was file) k w }
+    ensures { result ≡ walk_of file.now k w }
 {
     let before = w.t;
     let at = k.at;
@@ -62,7 +63,7 @@ fn check_stitches(file: &[u8], k: Block, w: Walker) -> Walk
 // One colour block, which n more follow, of a design part that ends at `end`.
 fn check_block(file: &[u8], end: usize, n: usize, w: Walker) -> Walk
     requires { Stands file.now end w }
-    ensures { Walks (was file) end n w result }
+    ensures { Walks file.now end n w result }
 {
     match block_at(file, w.at, end, 0 < n, w.x, w.y) {
         Colored::Of(k) => check_stitches(file, k, w),
@@ -82,7 +83,7 @@ fn refused_by(k: Walk) -> Refusal
 // So many colour blocks, of a design part that ends at `end`.
 fn check_blocks(file: &[u8], from: usize, end: usize, count: usize) -> Checked
     requires { (from ≤ end) × ((end ≤ length file.now) × (length file.now ≤ 2097152)) }
-    ensures { Checks (blocks_from count (pos 0) (pos 0) (within (was file) from end)) result }
+    ensures { Checks (blocks_from count (pos 0) (pos 0) (within file.now from end)) result }
 {
     let mut w = Walker {
         t: none(),
@@ -106,7 +107,7 @@ fn check_blocks(file: &[u8], from: usize, end: usize, count: usize) -> Checked
 // The first pass over a file that begins as it must.
 pub fn check(file: &[u8]) -> Checked
     requires { (6 ≤ length file.now) × (length file.now ≤ 2097152) }
-    ensures { Checks (vp3_blocks (was file)) result }
+    ensures { Checks (vp3_blocks file.now) result }
 {
     match design_of(file) {
         Design::Of { at, end, count } => check_blocks(file, at, end, count),
@@ -115,7 +116,7 @@ pub fn check(file: &[u8]) -> Checked
 }
 
 // The builder at a block's start, and where the block's fields begin.
-#[derive(Drop)]
+#[derive(Clone, Copy)]
 struct Filler {
     b: Builder,
     at: usize,
@@ -132,7 +133,7 @@ fn fill_block(
     blocks: &mut [u32],
 ) -> Filler
     requires { Ready file.now end (suc n) f (length places.old) (length runs.old) (length blocks.old) }
-    ensures { Fills (was file) end n f (was places) (left places) (was runs) (left runs) (was blocks) (left blocks) result }
+    ensures { Fills file.now end n f places.old places.new runs.old runs.new blocks.old blocks.new result }
 {
     let first = f.b;
     let Colored::Of(k) = block_at(file, f.at, end, 0 < n, first.x, first.y) else {
@@ -162,7 +163,7 @@ fn fill_blocks(
     requires from_le_end { (from ≤ end) × ((end ≤ length file.now) × (length file.now ≤ 2097152)) }
     requires end_value { fault_in (blocks_from count (pos 0) (pos 0) (within file.now from end)) ≡ Accepted }
     requires fits { Fits (blocks_from count (pos 0) (pos 0) (within file.now from end)) (length places.old) (length runs.old) (length blocks.old) }
-    ensures { Filled (blocks_from count (pos 0) (pos 0) (within (was file) from end)) (was places) (left places) (was runs) (left runs) (was blocks) (left blocks) }
+    ensures { Filled (blocks_from count (pos 0) (pos 0) (within file.now from end)) places.old places.new runs.old runs.new blocks.old blocks.new }
 {
     let mut f = Filler { b: new(), at: from };
     let mut left = count;
@@ -177,7 +178,7 @@ pub fn fill(file: &[u8], places: &mut [i32], runs: &mut [u32], blocks: &mut [u32
     requires in_bounds { (6 ≤ length file.now) × (length file.now ≤ 2097152) }
     requires file_value { fault_in (vp3_blocks file.now) ≡ Accepted }
     requires fits { Fits (vp3_blocks file.now) (length places.old) (length runs.old) (length blocks.old) }
-    ensures { Filled (vp3_blocks (was file)) (was places) (left places) (was runs) (left runs) (was blocks) (left blocks) }
+    ensures { Filled (vp3_blocks file.now) places.old places.new runs.old runs.new blocks.old blocks.new }
 {
     let Design::Of { at, end, count } = design_of(file) else {
         return;

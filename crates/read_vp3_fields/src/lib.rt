@@ -1,43 +1,44 @@
 // VP3 files: the fields of a file in order of place, up to the first fault.
+#![tactic(auto)]
+
 ghost use Rattle.std.specs.Prelude.{◌≡◌, List, ℕ, ◌+◌, ◌*◌, ◌≤◌, ◌<◌, ◌+ℤ◌, nat_abs, length, take, drop, get_or};
 ghost use Rattle.rules.specs.Vocabulary.{signed};
 ghost use Rattle.rules.specs.Vp3.{from_big, toward_zero, shifts, in_color_part, in_design_part, in_file_part, vp3_blocks};
-ghost use Rattle.rules.specs.Promises.{was};
 ghost use Rattle.read_vp3_fields.specs.Fields.{within, Sound, Skipped, TextRead, PartAt, PartRead, counted, Designs};
 ghost use Rattle.read_vp3_fields.specs.Fields.{start_by, stitches_at, StitchPart, Colors, BlockRead};
 
 use rules::{Color, Refusal};
 
 // Where the next field begins, or why the file is refused before it.
-#[derive(Drop)]
+#[derive(Clone, Copy)]
 pub enum Place {
     At(usize),
     Not(Refusal),
 }
 
 // A part, from one place to before another, or why the file is refused before it.
-#[derive(Drop)]
+#[derive(Clone, Copy)]
 pub enum Part {
     Of { at: usize, end: usize },
     Not(Refusal),
 }
 
 // The colour blocks of the design part: where they begin and how many there are, and where the part ends.
-#[derive(Drop)]
+#[derive(Clone, Copy)]
 pub enum Design {
     Of { at: usize, end: usize, count: usize },
     Not(Refusal),
 }
 
 // A coordinate of a block's start, if it is within 32 bits.
-#[derive(Drop)]
+#[derive(Clone, Copy)]
 pub enum Start {
     At(i32),
     Beyond,
 }
 
 // A colour block: its colour, where the next one starts, its stitch bytes, and where the next one's fields begin.
-#[derive(Drop)]
+#[derive(Clone, Copy)]
 pub struct Block {
     pub color: Color,
     pub x: i32,
@@ -47,7 +48,7 @@ pub struct Block {
     pub next: usize,
 }
 
-#[derive(Drop)]
+#[derive(Clone, Copy)]
 pub enum Colored {
     Of(Block),
     Not(Refusal),
@@ -56,7 +57,7 @@ pub enum Colored {
 // A number of two bytes, the high byte first.
 pub fn be16(file: &[u8], at: usize) -> usize
     requires { at + 2 ≤ length file.now }
-    ensures { (result ≡ from_big (take 2 (drop at (was file)))) × (result < 65536) }
+    ensures { (result ≡ from_big (take 2 (drop at file.now))) × (result < 65536) }
 {
     256 * (file[at] as usize) + (file[at + 1] as usize)
 }
@@ -64,7 +65,7 @@ pub fn be16(file: &[u8], at: usize) -> usize
 // A number of four bytes, the high byte first.
 pub fn be32(file: &[u8], at: usize) -> u32
     requires { at + 4 ≤ length file.now }
-    ensures { result ≡ from_big (take 4 (drop at (was file))) }
+    ensures { result ≡ from_big (take 4 (drop at file.now)) }
 {
     let high = 256 * (file[at] as u32) + (file[at + 1] as u32);
     let low = 256 * (file[at + 2] as u32) + (file[at + 3] as u32);
@@ -88,7 +89,7 @@ fn skip(p: Place, end: usize, n: usize) -> Place
 // A text behind its length.
 fn text(file: &[u8], p: Place, end: usize) -> Place
     requires { Sound end p × (end ≤ length file.now) }
-    ensures { TextRead (was file) end p result }
+    ensures { TextRead file.now end p result }
 {
     let Place::At(at) = p else {
         return p;
@@ -106,7 +107,7 @@ fn text(file: &[u8], p: Place, end: usize) -> Place
 // A part behind its length, from `at` on.
 fn part_at(file: &[u8], at: usize, end: usize) -> Part
     requires { (at ≤ end) × (end ≤ length file.now) }
-    ensures { PartAt (was file) end at result }
+    ensures { PartAt file.now end at result }
 {
     if end - at < 4 {
         return Part::Not(Refusal::FileTooShort);
@@ -123,7 +124,7 @@ fn part_at(file: &[u8], at: usize, end: usize) -> Part
 
 fn part_from(file: &[u8], p: Place, end: usize) -> Part
     requires { Sound end p × (end ≤ length file.now) }
-    ensures { PartRead (was file) end p result }
+    ensures { PartRead file.now end p result }
 {
     match p {
         Place::At(at) => part_at(file, at, end),
@@ -134,7 +135,7 @@ fn part_from(file: &[u8], p: Place, end: usize) -> Part
 // The count of blocks, the last field of the design part before them.
 fn count_at(file: &[u8], at: usize, end: usize) -> Design
     requires { (at ≤ end) × (end ≤ length file.now) }
-    ensures { Designs (was file) (counted (within (was file) at end)) result }
+    ensures { Designs file.now (counted (within file.now at end)) result }
 {
     if end - at < 2 {
         return Design::Not(Refusal::FileTooShort);
@@ -149,7 +150,7 @@ fn count_at(file: &[u8], at: usize, end: usize) -> Design
 // Centre, sizes, a text, four numbers, a text, the count.
 fn design_part(file: &[u8], from: usize, end: usize) -> Design
     requires { (from ≤ end) × (end ≤ length file.now) }
-    ensures { Designs (was file) (in_design_part (within (was file) from end)) result }
+    ensures { Designs file.now (in_design_part (within file.now from end)) result }
 {
     let first = text(file, skip(Place::At(from), end, 35), end);
     let second = text(file, skip(first, end, 24), end);
@@ -162,7 +163,7 @@ fn design_part(file: &[u8], from: usize, end: usize) -> Design
 // A text, bounds and counts, the design part.
 fn file_part(file: &[u8], from: usize, to: usize) -> Design
     requires { (from ≤ to) × (to ≤ length file.now) }
-    ensures { Designs (was file) (in_file_part (within (was file) from to)) result }
+    ensures { Designs file.now (in_file_part (within file.now from to)) result }
 {
     let sizes = text(file, Place::At(from), to);
     match part_from(file, skip(sizes, to, 28), to) {
@@ -174,7 +175,7 @@ fn file_part(file: &[u8], from: usize, to: usize) -> Design
 // A file that begins as it must: a text, three bytes, the file part.
 pub fn design_of(file: &[u8]) -> Design
     requires { 6 ≤ length file.now }
-    ensures { Designs (was file) (vp3_blocks (was file)) result }
+    ensures { Designs file.now (vp3_blocks file.now) result }
 {
     let n = file.len();
     let producer = text(file, Place::At(6), n);
@@ -234,7 +235,7 @@ fn stitches_at(at: usize, end: usize, next: usize, color: Color, x: i32, y: i32)
 // The stitch part: three bytes, its length, three bytes more, stitches. The next block starts at (x, y).
 fn stitch_part(file: &[u8], from: usize, to: usize, color: Color, x: i32, y: i32) -> Colored
     requires { (from ≤ to) × (to ≤ length file.now) }
-    ensures { StitchPart (was file) from to color x y result }
+    ensures { StitchPart file.now from to color x y result }
 {
     match part_from(file, skip(Place::At(from), to, 3), to) {
         Part::Of { at, end } => stitches_at(at, end, to, color, x, y),
@@ -253,7 +254,7 @@ fn shifts(
     color: Color,
 ) -> Colored
     requires { (at ≤ end) × (end ≤ length file.now) }
-    ensures { Colors (was file) at end x y follows (λ n. shifts n x y color) result }
+    ensures { Colors file.now at end x y follows (λ n. shifts n x y color) result }
 {
     if end - at < 4 {
         return Colored::Not(Refusal::FileTooShort);
@@ -273,7 +274,7 @@ fn shifts(
 // A colour part of the block from (x, y): stored start, colour, three texts, shift, stitches.
 fn color_part(file: &[u8], from: usize, end: usize, follows: bool, x: i32, y: i32) -> Colored
     requires { (from ≤ end) × (end ≤ length file.now) }
-    ensures { Colors (was file) from end x y follows (λ n. in_color_part n x y) result }
+    ensures { Colors file.now from end x y follows (λ n. in_color_part n x y) result }
 {
     if end - from < 18 {
         return Colored::Not(Refusal::FileTooShort);
@@ -291,7 +292,7 @@ fn color_part(file: &[u8], from: usize, end: usize, follows: bool, x: i32, y: i3
 // The colour block from (x, y), and whether by the stored count another follows it.
 pub fn block_at(file: &[u8], from: usize, to: usize, follows: bool, x: i32, y: i32) -> Colored
     requires { (from ≤ to) × (to ≤ length file.now) }
-    ensures { BlockRead (was file) from to x y follows result }
+    ensures { BlockRead file.now from to x y follows result }
 {
     match part_from(file, skip(Place::At(from), to, 3), to) {
         Part::Of { at, end } => color_part(file, at, end, follows, x, y),

@@ -1,7 +1,6 @@
 // The first pass over the stitches of a block: how much they add to the answers.
 ghost use Rattle.std.specs.Prelude.{◌≡◌, ◌+◌, ◌-◌, ◌≤◌, ◌<◌, length, drop};
 ghost use Rattle.rules.specs.Vp3.{stitch_events};
-ghost use Rattle.rules.specs.Promises.{was};
 ghost use Rattle.read_vp3_stitches.specs.Tallies.{tally_all, Spare, Counts};
 
 use crate::steps::{Step, step_at};
@@ -11,8 +10,8 @@ use read_passes::last_turn;
 // One step of any kind.
 fn count_step(t: Tally, bytes: &[u8], at: usize) -> Passed
     requires { (at ≤ length bytes.now) × Spare t (length bytes.now - at) }
-    ensures counts { Counts (was bytes) t at result }
-    ensures at_lt_at { at < length (was bytes) → at < result.at }
+    ensures counts { Counts bytes.now t at result }
+    ensures at_lt_at { at < length bytes.now → at < result.at }
 {
     match step_at(bytes, at) {
         Step::Stitch { len, .. } => Passed {
@@ -31,7 +30,7 @@ fn count_step(t: Tally, bytes: &[u8], at: usize) -> Passed
 // Two stitches of a pair each, or one step.
 fn count_pair(t: Tally, bytes: &[u8], at: usize) -> Passed
     requires { (at + 4 ≤ length bytes.now) × Spare t (length bytes.now - at) }
-    ensures counts { Counts (was bytes) t at result }
+    ensures counts { Counts bytes.now t at result }
     ensures at_lt_at { at < result.at }
 {
     if bytes[at] == 0x80 {
@@ -52,7 +51,7 @@ fn count_pair(t: Tally, bytes: &[u8], at: usize) -> Passed
 // One step after the other, from byte `from` on, to the end.
 fn count_rest(bytes: &[u8], from: usize, first: Tally) -> Tally
     requires { (from ≤ length bytes.now) × Spare first (length bytes.now - from) }
-    ensures { result ≡ tally_all first (stitch_events (drop from (was bytes))) }
+    ensures { result ≡ tally_all first (stitch_events (drop from bytes.now)) }
 {
     let mut t = first;
     let mut at = from;
@@ -67,7 +66,7 @@ fn count_rest(bytes: &[u8], from: usize, first: Tally) -> Tally
 // All of them.
 pub fn count_stitches(bytes: &[u8], first: Tally) -> Tally
     requires { Spare first (length bytes.now) }
-    ensures { result ≡ tally_all first (stitch_events (was bytes)) }
+    ensures { result ≡ tally_all first (stitch_events bytes.now) }
 {
     let mut t = first;
     let mut at: usize = 0;

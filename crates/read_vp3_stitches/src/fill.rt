@@ -3,7 +3,6 @@ ghost use Rattle.std.specs.Prelude.{◌≡◌, ◌+◌, ◌*◌, ◌≤◌, ◌<
 ghost use Rattle.std.proofs.lemmas.List.Edits.{sets};
 ghost use Rattle.rules.specs.Answers.{places};
 ghost use Rattle.rules.specs.Vp3.{stitch_events};
-ghost use Rattle.rules.specs.Promises.{was, left};
 ghost use Rattle.read_vp3_stitches.specs.Fills.{Ready, Filled, Turned};
 
 use crate::steps::{Step, step_at};
@@ -13,7 +12,7 @@ use read_passes::last_turn;
 use read_records::bytes::s8;
 
 // The builder after a turn, and the place of the next step.
-#[derive(Drop)]
+#[derive(Clone, Copy)]
 pub struct Turn {
     pub b: Builder,
     pub at: usize,
@@ -22,7 +21,7 @@ pub struct Turn {
 // One step of any kind.
 fn fill_step(b: Builder, bytes: &[u8], at: usize, places: &mut [i32], runs: &mut [u32]) -> Turn
     requires { Ready bytes.now b at (length places.old) (length runs.old) }
-    ensures { Turned (was bytes) b at (was places) (left places) (was runs) (left runs) result }
+    ensures { Turned bytes.now b at places.old places.new runs.old runs.new result }
 {
     match step_at(bytes, at) {
         Step::Stitch { dx, dy, len } => Turn {
@@ -42,7 +41,7 @@ fn fill_step(b: Builder, bytes: &[u8], at: usize, places: &mut [i32], runs: &mut
 fn fill_pair(b: Builder, bytes: &[u8], at: usize, places: &mut [i32], runs: &mut [u32]) -> Turn
     requires ready { Ready bytes.now b at (length places.old) (length runs.old) }
     requires at_in_bounds { at + 4 ≤ length bytes.now }
-    ensures { Turned (was bytes) b at (was places) (left places) (was runs) (left runs) result }
+    ensures { Turned bytes.now b at places.old places.new runs.old runs.new result }
 {
     if bytes[at] == 0x80 {
         return fill_step(b, bytes, at, places, runs);
@@ -66,7 +65,7 @@ fn fill_rest(
     runs: &mut [u32],
 ) -> Builder
     requires { Ready bytes.now first from (length places.old) (length runs.old) }
-    ensures { Filled (stitch_events (drop from (was bytes))) first (was places) (left places) (was runs) (left runs) result }
+    ensures { Filled (stitch_events (drop from bytes.now)) first places.old places.new runs.old runs.new result }
 {
     let mut b = first;
     let mut at = from;
@@ -81,7 +80,7 @@ fn fill_rest(
 // All of them.
 pub fn fill_stitches(bytes: &[u8], first: Builder, places: &mut [i32], runs: &mut [u32]) -> Builder
     requires { Ready bytes.now first 0 (length places.old) (length runs.old) }
-    ensures { Filled (stitch_events (was bytes)) first (was places) (left places) (was runs) (left runs) result }
+    ensures { Filled (stitch_events bytes.now) first places.old places.new runs.old runs.new result }
 {
     let mut b = first;
     let mut at: usize = 0;

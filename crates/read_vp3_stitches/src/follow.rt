@@ -1,7 +1,6 @@
 // Stitches that may lead beyond 32 bits are followed place by place.
 ghost use Rattle.std.specs.Prelude.{◌≡◌, false, true, ◌+◌, ◌-◌, ◌*◌, ◌≤◌, ◌<◌, ◌^◌, nat_abs, ◌+ℤ◌, length};
 ghost use Rattle.rules.specs.Vp3.{stitch_events};
-ghost use Rattle.rules.specs.Promises.{was};
 ghost use Rattle.read_vp3_stitches.specs.Tallies.{Spare};
 ghost use Rattle.read_vp3_stitches.specs.Ways.{sum_of, followed, stitch_way, Follows};
 
@@ -10,7 +9,7 @@ use crate::steps::{Step, step_at};
 use read_count::tally::{Tally, tally_one};
 
 // What has been counted, the place, and where the next step stands.
-#[derive(Drop)]
+#[derive(Clone, Copy)]
 pub struct Way {
     pub t: Tally,
     pub x: i32,
@@ -19,21 +18,21 @@ pub struct Way {
 }
 
 // That, or a place beyond 32 bits.
-#[derive(Drop)]
+#[derive(Clone, Copy)]
 pub enum Trail {
     On(Way),
     Beyond,
 }
 
 // What all stitches of a block count to, or a place beyond 32 bits.
-#[derive(Drop)]
+#[derive(Clone, Copy)]
 pub enum Followed {
     Within(Tally),
     Beyond,
 }
 
 // A sum beyond 32 bits is answered as one that is not there.
-#[derive(Drop)]
+#[derive(Clone, Copy)]
 pub enum Sum {
     Of(i32),
     Beyond,
@@ -74,7 +73,7 @@ fn follow_stitch(w: Way, dx: i32, dy: i32, len: usize) -> Trail
 // One step of any kind.
 fn follow_step(w: Way, bytes: &[u8]) -> Trail
     requires { (w.at < length bytes.now) × ((length bytes.now < 2 ^ 62) × Spare w.t (length bytes.now - w.at)) }
-    ensures { Follows (was bytes) w result }
+    ensures { Follows bytes.now w result }
 {
     let t = w.t;
     match step_at(bytes, w.at) {
@@ -102,7 +101,7 @@ fn follow_step(w: Way, bytes: &[u8]) -> Trail
 
 fn follow_stitches(bytes: &[u8], x: i32, y: i32, t: Tally) -> Followed
     requires { (length bytes.now < 2 ^ 62) × Spare t (length bytes.now) }
-    ensures { result ≡ followed t x y (stitch_events (was bytes)) }
+    ensures { result ≡ followed t x y (stitch_events bytes.now) }
 {
     let mut w = Way { t, x, y, at: 0 };
     while w.at < bytes.len() {
@@ -130,7 +129,7 @@ fn is_near(z: i32, n: usize) -> bool
 // What the stitches of a block that starts at (x, y) count to.
 pub fn follow(bytes: &[u8], x: i32, y: i32, t: Tally) -> Followed
     requires { (length bytes.now ≤ 2097152) × Spare t (length bytes.now) }
-    ensures { result ≡ followed t x y (stitch_events (was bytes)) }
+    ensures { result ≡ followed t x y (stitch_events bytes.now) }
 {
     if is_near(x, bytes.len()) {
         if is_near(y, bytes.len()) {

@@ -1,4 +1,6 @@
 // What the replaying programs share: the next case of a list, numbers in it, a packed file, the counts of outcomes.
+#![tactic(auto)]
+
 pub mod bytes;
 pub mod packbits;
 
@@ -8,14 +10,14 @@ use bytes::word;
 use libc::STDOUT_FILENO;
 
 // A case of a list: whether there is one, how many bytes of it there are, and whether these are all.
-#[derive(Drop)]
+#[derive(Clone, Copy)]
 pub struct Case {
     pub there: bool,
     pub len: usize,
     pub whole: bool,
 }
 
-#[derive(Drop)]
+#[derive(Clone, Copy)]
 pub enum Outcome {
     Right,
     Wrong,

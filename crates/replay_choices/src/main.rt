@@ -1,4 +1,6 @@
 // Replays the Rust's answers on colours, threads and bounds (data/choices) and counts what agrees.
+#![tactic(auto)]
+
 mod verdicts;
 
 ghost use Rattle.std.specs.Prelude.{◌+◌, ◌≤◌, ◌<◌};
@@ -7,7 +9,7 @@ ghost use Rattle.replay_choices.specs.Score.{Counted};
 use replay::bytes::{byte, word};
 
 // How many answers agree, and how many do not.
-#[derive(Drop)]
+#[derive(Clone, Copy)]
 pub struct Score {
     pub right: usize,
     pub wrong: usize,

@@ -1,4 +1,6 @@
 // Replays what the Rust read of files (data/reads) and counts what the port reads the same.
+#![tactic(auto)]
+
 mod buffers;
 mod bytes;
 mod verdicts;

@@ -4,7 +4,7 @@ use read_header::{Word, i32le};
 use replay::bytes::word;
 
 // How far the two were gone through, and whether they were the same: to a byte of the stored answer, and to a run and a cell of the port's.
-#[derive(Drop)]
+#[derive(Clone, Copy)]
 pub struct Walk {
     pub at: usize,
     pub run: usize,

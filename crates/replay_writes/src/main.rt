@@ -1,4 +1,6 @@
 // Replays what the Rust wrote of lists (data/writes) and counts what the port writes the same.
+#![tactic(auto)]
+
 mod buffers;
 mod bytes;
 mod verdicts;

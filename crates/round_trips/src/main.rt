@@ -1,4 +1,6 @@
 // Writes some lists in each format by `write_and_read` and prints what comes back: lengths, counts, label and points, or the refusal.
+#![tactic(auto)]
+
 use libc::STDOUT_FILENO;
 use read_header::part;
 use rules::RoundTripAnswer;

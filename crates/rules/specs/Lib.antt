@@ -22,7 +22,3 @@ pub mod Hoop
 pub mod Jobs
 pub mod Sewing
 pub mod Promises
-pub mod Samples
-pub mod Vectors
-pub mod Edges
-pub mod JobEdges

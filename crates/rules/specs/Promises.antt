@@ -2,7 +2,7 @@
 -- before.
 -- The same records are the contracts of the calls, of the C exports and what the theorems speak of.
 use Rattle.std.specs.Prelude.{ℕ, ◌+◌, ◌≤◌, min, ◌≡◌, List, map, ℤ, length, take, drop}
-use Rattle.std.specs.Borrow.{Bor}
+use Rattle.std.specs.Borrow.{MutBor}
 use denote.Triple.Both.{Both}
 use Rattle.rules.specs.Limits.{most_commands, most_threads}
 use Rattle.rules.specs.Lists.{commands}
@@ -33,10 +33,10 @@ use Rattle.rules.specs.declared.Verdict.TheVariants.{Accepted, Refused}
 use Rattle.rules.specs.declared.WriteAnswer.{WriteAnswer}
 
 -- the content behind a reference as a function is called, and as it returns
-abbrev pub was : {A X : Type 0} → Both (Bor A) X → A
+abbrev pub was : {A X : Type 0} → Both (MutBor A) X → A
 was r = r.entry.now
 
-abbrev pub left : {A X : Type 0} → Both X (Bor A) → A
+abbrev pub left : {A X : Type 0} → Both X (MutBor A) → A
 left r = r.exit.now
 
 -- ---- writing

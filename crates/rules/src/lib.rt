@@ -1,7 +1,8 @@
 // The vocabulary that the definitions of specs/ and the code share. There is no code here.
+#![tactic(auto)]
 
 // The formats, named by their extensions.
-#[derive(Drop)]
+#[derive(Clone, Copy)]
 pub enum Format {
     Pes,
     Pec,
@@ -12,14 +13,14 @@ pub enum Format {
 }
 
 // What an extension names.
-#[derive(Drop)]
+#[derive(Clone, Copy)]
 pub enum Extension {
     Of(Format),
     Unknown,
 }
 
 // What a command does. Kinds 0 to 4 stand for these in this order.
-#[derive(Drop)]
+#[derive(Clone, Copy)]
 pub enum Op {
     Stitch,
     Jump,
@@ -30,7 +31,7 @@ pub enum Op {
 
 // One machine command at an absolute place, in tenths of a millimetre.
 #[repr(C)]
-#[derive(Drop)]
+#[derive(Clone, Copy)]
 pub struct Cmd {
     pub x: i32,
     pub y: i32,
@@ -38,46 +39,46 @@ pub struct Cmd {
 }
 
 // The colour of a thread: red, green, blue.
-#[derive(Drop)]
+#[derive(Clone, Copy)]
 pub struct Color(pub u8, pub u8, pub u8);
 
 // An entry of a palette: a thread that may be chosen, or none.
-#[derive(Drop)]
+#[derive(Clone, Copy)]
 pub enum Slot {
     Empty,
     Thread(Color),
 }
 
 // Where something stands in a list, if anywhere.
-#[derive(Drop)]
+#[derive(Clone, Copy)]
 pub enum Found {
     At(usize),
     Missing,
 }
 
 // What the choice of the nearest entry answers: its index and its distance; or there is no thread to choose. Of equals it is the later.
-#[derive(Drop)]
+#[derive(Clone, Copy)]
 pub enum Nearest {
     Near(usize, u32),
     NoThread,
 }
 
 // The same of JEF's choice. Of equals it is the first.
-#[derive(Drop)]
+#[derive(Clone, Copy)]
 pub enum JefNearest {
     Near(usize, u32),
     NoThread,
 }
 
 // The thread before in JEF's thread table, with the entry chosen for it, if there is one.
-#[derive(Drop)]
+#[derive(Clone, Copy)]
 pub enum Previous {
     First,
     Entry(usize, Color),
 }
 
 // Why a call refuses, in the order of the numbers 1 to 14.
-#[derive(Drop)]
+#[derive(Clone, Copy)]
 pub enum Refusal {
     UnknownExtension,
     FileTooLong,
@@ -96,14 +97,14 @@ pub enum Refusal {
 }
 
 // What the checks say.
-#[derive(Drop)]
+#[derive(Clone, Copy)]
 pub enum Verdict {
     Accepted,
     Refused(Refusal),
 }
 
 // How much a read found: points, runs, blocks listed, and cuts.
-#[derive(Drop)]
+#[derive(Clone, Copy)]
 pub struct Counts {
     pub points: u32,
     pub runs: u32,
@@ -112,21 +113,21 @@ pub struct Counts {
 }
 
 // What a read answers.
-#[derive(Drop)]
+#[derive(Clone, Copy)]
 pub enum ReadAnswer {
     Read(Counts),
     Unread(Refusal),
 }
 
 // What a write answers: the length of the file, and the largest distance of a thread from its entry.
-#[derive(Drop)]
+#[derive(Clone, Copy)]
 pub enum WriteAnswer {
     Written(usize, u32),
     Unwritten(Refusal),
 }
 
 // What a write answers whose file is read back: not written, and why; written, with its length, but not read, and why; or both.
-#[derive(Drop)]
+#[derive(Clone, Copy)]
 pub enum RoundTripAnswer {
     NotWritten(Refusal),
     NotRead(usize, Refusal),
@@ -134,28 +135,28 @@ pub enum RoundTripAnswer {
 }
 
 // How much a job holds: commands, and bytes of threads.
-#[derive(Drop)]
+#[derive(Clone, Copy)]
 pub struct JobCounts {
     pub commands: u32,
     pub thread_bytes: u32,
 }
 
 // What the import of a job answers.
-#[derive(Drop)]
+#[derive(Clone, Copy)]
 pub enum ImportAnswer {
     Imported(JobCounts),
     NotImported(Refusal),
 }
 
 // What the export of a job answers: its length.
-#[derive(Drop)]
+#[derive(Clone, Copy)]
 pub enum ExportAnswer {
     Exported(usize),
     NotExported(Refusal),
 }
 
 // A hoop: from left to right on the x axis, from top to bottom on the y axis, which points down.
-#[derive(Drop)]
+#[derive(Clone, Copy)]
 pub struct Hoop {
     pub left: i32,
     pub right: i32,
@@ -164,7 +165,7 @@ pub struct Hoop {
 }
 
 // Whether what a file sews lies in a hoop, or why the file is refused.
-#[derive(Drop)]
+#[derive(Clone, Copy)]
 pub enum FitsAnswer {
     Yes,
     No,
@@ -172,7 +173,7 @@ pub enum FitsAnswer {
 }
 
 // What the first record of a list of bytes does, by how far it moves, and the bytes it takes.
-#[derive(Drop)]
+#[derive(Clone, Copy)]
 pub enum Record {
     StitchBy { dx: i32, dy: i32, len: usize },
     JumpBy { dx: i32, dy: i32, len: usize },
@@ -182,7 +183,7 @@ pub enum Record {
 }
 
 // The scale and the two offsets of a thumbnail.
-#[derive(Drop)]
+#[derive(Clone, Copy)]
 pub struct Scale {
     pub scale: f64,
     pub tx: f64,

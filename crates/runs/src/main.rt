@@ -1,9 +1,10 @@
 // Reads an extension, a newline and a file from standard input, and prints what the file sews.
+#![tactic(auto)]
+
 mod buffer;
 mod show;
 
 ghost use Rattle.std.specs.Prelude.{ℕ, ◌≤◌, ◌<◌, ◌≡◌, length, get_or};
-ghost use Rattle.rules.specs.Promises.{was};
 
 use buffer::Buffer;
 use formats::extension_of;
@@ -12,9 +13,9 @@ use rules::{Extension, ReadAnswer, Refusal};
 
 // Where the first line ends: at its newline, or where the input ends.
 fn line_end(input: &[u8]) -> usize
-    ensures within { result ≤ length (was input) }
-    ensures before { (k : ℕ) → k < result → get_or (was input) k 0 ≡ 10 → ⊥ }
-    ensures found { result < length (was input) → get_or (was input) result 0 ≡ 10 }
+    ensures within { result ≤ length input.now }
+    ensures before { (k : ℕ) → k < result → get_or input.now k 0 ≡ 10 → ⊥ }
+    ensures found { result < length input.now → get_or input.now result 0 ≡ 10 }
 {
     let mut i = 0;
     while i < input.len() {

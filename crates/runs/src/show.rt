@@ -1,6 +1,5 @@
 // What is printed, line by line. A function that puts bytes into the buffer answers the next `at`.
 ghost use Rattle.std.specs.Prelude.{◌≤◌, ◌<◌, length};
-ghost use Rattle.rules.specs.Promises.{was};
 
 use crate::buffer::{Buffer, put_byte, put_decimal, put_text};
 use formats::extension_of;
@@ -96,7 +95,7 @@ fn digit(n: u32) -> u8
     if n < 10 {
         return b'0' + (n as u8);
     }
-    b'_a' + ((n - 10) as u8)
+    b'A' + ((n - 10) as u8)
 }
 
 // Two digits.
@@ -164,7 +163,7 @@ fn past(at: usize, n: usize, end: usize) -> usize
 }
 
 // What comes next: a place in the buffer, a cell and a run.
-#[derive(Drop)]
+#[derive(Clone, Copy)]
 struct Next {
     at: usize,
     cell: usize,
@@ -174,7 +173,7 @@ struct Next {
 // A run of n points.
 fn run(out: &mut Buffer, from: Next, places: &[i32], n: u32) -> Next
     requires { (from.at ≤ 65536) × (from.cell ≤ length places.now) }
-    ensures { (result.at ≤ 65536) × (result.cell ≤ length (was places)) }
+    ensures { (result.at ≤ 65536) × (result.cell ≤ length places.now) }
 {
     let cell = from.cell;
     let end = past(cell, 2 * wide(n), places.len());
@@ -188,7 +187,7 @@ fn run(out: &mut Buffer, from: Next, places: &[i32], n: u32) -> Next
 
 fn block_runs(out: &mut Buffer, from: Next, places: &[i32], runs: &[u32]) -> Next
     requires { (from.at ≤ 65536) × (from.cell ≤ length places.now) }
-    ensures { (result.at ≤ 65536) × (result.cell ≤ length (was places)) }
+    ensures { (result.at ≤ 65536) × (result.cell ≤ length places.now) }
 {
     let mut next = from;
     let mut i = 0;
@@ -210,7 +209,7 @@ fn block(
     n: u32,
 ) -> Next
     requires { (from.at ≤ 65536) × (from.cell ≤ length places.now) × (from.run ≤ length runs.now) }
-    ensures { (result.at ≤ 65536) × (result.cell ≤ length (was places)) × (result.run ≤ length (was runs)) }
+    ensures { (result.at ≤ 65536) × (result.cell ≤ length places.now) × (result.run ≤ length runs.now) }
 {
     let start = from.run;
     let end = past(start, wide(n), runs.len());

@@ -1,9 +1,11 @@
 // The calls of the box. What each promises is a record of specs/Promises.antt of crate rules, for every input.
+#![tactic(auto)]
+
 ghost use Rattle.std.specs.Prelude.{◌≡◌, ◌≤◌, min};
 ghost use Rattle.rules.specs.Files.{label_told};
 ghost use Rattle.rules.specs.Hoop.{fits_told};
 ghost use Rattle.rules.specs.Jobs.{job_name_told};
-ghost use Rattle.rules.specs.Promises.{was, left, Wrote, bound_of, bound_told, ReadOf, ImportedOf, Exported};
+ghost use Rattle.rules.specs.Promises.{Wrote, bound_of, bound_told, ReadOf, ImportedOf, Exported};
 ghost use Rattle.rules.specs.Refusals.{extension_of};
 ghost use Rattle.rules.specs.declared.Extension.TheVariants.{Of};
 ghost use Rattle.stitch_box.specs.Back.{ReadBackOf, WritesAndReads};
@@ -29,7 +31,7 @@ pub fn write_stitch_file(
     threads: &[u8],
     out: &mut [u8],
 ) -> WriteAnswer
-    ensures { Wrote (Of f) (was name) (was xs) (was ys) (was kinds) (was threads) (was out) (left out) result }
+    ensures { Wrote (Of f) name.now xs.now ys.now kinds.now threads.now out.old out.new result }
 {
     match f {
         Format::Dst => dst_from_stream(name, xs, ys, kinds, threads, out),
@@ -53,7 +55,7 @@ pub fn write(
     threads: &[u8],
     out: &mut [u8],
 ) -> WriteAnswer
-    ensures { Wrote (extension_of (was ext)) (was name) (was xs) (was ys) (was kinds) (was threads) (was out) (left out) result }
+    ensures { Wrote (extension_of ext.now) name.now xs.now ys.now kinds.now threads.now out.old out.new result }
 {
     let named = extension_of(ext);
     let Extension::Of(f) = named else {
@@ -89,7 +91,7 @@ fn bound_of(f: Format, n: usize, t: usize) -> usize
 // Cells that hold the file of any list of so many commands and threads that `write` takes under an extension; 0 under an unknown one.
 // Longer lists and more threads are refused, and count as the most that are taken.
 pub fn write_bound(ext: &[u8], commands: usize, threads: usize) -> usize
-    ensures { result ≡ bound_told (extension_of (was ext)) commands threads }
+    ensures { result ≡ bound_told (extension_of ext.now) commands threads }
 {
     let named = extension_of(ext);
     let Extension::Of(f) = named else {
@@ -111,14 +113,14 @@ pub fn read(
     runs: &mut [u32],
     blocks: &mut [u32],
 ) -> ReadAnswer
-    ensures { ReadOf (extension_of (was ext)) (was file) (was places) (was runs) (was blocks) (left places) (left runs) (left blocks) result }
+    ensures { ReadOf (extension_of ext.now) file.now places.old runs.old blocks.old places.new runs.new blocks.new result }
 {
     read::read(ext, file, places, runs, blocks)
 }
 
 // The label of a file, as a part of it: empty for EXP and JEF, and under every refusal of reading but 11.
 pub fn label<'a>(ext: &[u8], file: &'a [u8]) -> &'a [u8]
-    ensures { result.now ≡ label_told (extension_of (was ext)) (was file) }
+    ensures { result.now ≡ label_told (extension_of ext.now) file.now }
 {
     read_refusals::label(ext, file)
 }
@@ -126,7 +128,7 @@ pub fn label<'a>(ext: &[u8], file: &'a [u8]) -> &'a [u8]
 // Whether every place of every run of a file has x from left to right and y from top to bottom, edges included, without a buffer; or why
 // the file is refused, by every refusal of reading but 11. A file without runs is a yes.
 pub fn fits(ext: &[u8], file: &[u8], left: i32, right: i32, top: i32, bottom: i32) -> FitsAnswer
-    ensures { result ≡ fits_told (extension_of (was ext)) (was file) (record { left = left; right = right; top = top; bottom = bottom }) }
+    ensures { result ≡ fits_told (extension_of ext.now) file.now (record { left = left; right = right; top = top; bottom = bottom }) }
 {
     hoop::fits(ext, file, left, right, top, bottom)
 }
@@ -140,7 +142,7 @@ fn read_back(
     runs: &mut [u32],
     blocks: &mut [u32],
 ) -> RoundTripAnswer
-    ensures { ReadBackOf (extension_of (was ext)) n (was file) (was places) (was runs) (was blocks) (left places) (left runs) (left blocks) result }
+    ensures { ReadBackOf (extension_of ext.now) n file.now places.old runs.old blocks.old places.new runs.new blocks.new result }
 {
     let told = read(ext, file, places, runs, blocks);
     match told {
@@ -164,7 +166,7 @@ pub fn write_and_read(
     runs: &mut [u32],
     blocks: &mut [u32],
 ) -> RoundTripAnswer
-    ensures { WritesAndReads (extension_of (was ext)) (was name) (was xs) (was ys) (was kinds) (was threads) file places runs blocks result }
+    ensures { WritesAndReads (extension_of ext.now) name.now xs.now ys.now kinds.now threads.now file places runs blocks result }
 {
     let written = write(ext, name, xs, ys, kinds, threads, file);
     match written {
@@ -182,14 +184,14 @@ pub fn import_job(
     kinds: &mut [u8],
     threads: &mut [u8],
 ) -> ImportAnswer
-    ensures { ImportedOf (was job) (was xs) (was ys) (was kinds) (was threads) (left xs) (left ys) (left kinds) (left threads) result }
+    ensures { ImportedOf job.now xs.old ys.old kinds.old threads.old xs.new ys.new kinds.new threads.new result }
 {
     import_job::import_job(job, xs, ys, kinds, threads)
 }
 
 // The name of a job, as a part of it: empty under every refusal of importing but 11.
 pub fn job_name(job: &[u8]) -> &[u8]
-    ensures { result.now ≡ job_name_told (was job) }
+    ensures { result.now ≡ job_name_told job.now }
 {
     import_job::job_name(job)
 }
@@ -204,7 +206,7 @@ pub fn export_job(
     threads: &[u8],
     out: &mut [u8],
 ) -> ExportAnswer
-    ensures { Exported (was name) (was xs) (was ys) (was kinds) (was threads) (was out) (left out) result }
+    ensures { Exported name.now xs.now ys.now kinds.now threads.now out.old out.new result }
 {
     export_job::export_job(name, xs, ys, kinds, threads, out)
 }

@@ -1,6 +1,6 @@
 -- The number, start and length of what the label's call answers, and four promises of crate rules by what an export is passed.
 use Rattle.std.specs.Prelude.{ℕ, List, ℤ}
-use Rattle.std.specs.Borrow.{Bor}
+use Rattle.std.specs.Borrow.{MutBor}
 use denote.Triple.Both.{Both}
 use Rattle.read_refusals.specs.declared.LabelAnswer.{LabelAnswer}
 use Rattle.read_refusals.specs.declared.LabelAnswer.TheVariants.{Found, Not}
@@ -24,7 +24,7 @@ label_length (Not r) = 0
 
 -- what a call is passed, at entry and at exit
 abbrev pub Lent : Type 0 → Type 0
-Lent A = Both (Bor A) (Bor A)
+Lent A = Both (MutBor A) (MutBor A)
 
 -- `ReadNumbers` of the buffers and the numbers passed
 abbrev pub ReadsNumbers : Extension → List ℕ → Lent (List ℤ) → Lent (List ℕ) → Lent (List ℕ) → ℕ → Lent ℕ → Lent ℕ → Lent ℕ → Lent ℕ → Type 0

@@ -1,9 +1,11 @@
 // The C interface: numbers and slices only, each slice as a pointer and a length. Single numbers go out through references.
+#![tactic(auto)]
+
 ghost use Rattle.std.specs.Prelude.{◌≡◌};
 ghost use Rattle.rules.specs.Files.{read_number, read_counts, write_number, write_length, write_distance};
 ghost use Rattle.rules.specs.Hoop.{fits_number, fits_bit};
 ghost use Rattle.rules.specs.Jobs.{import_number, import_counts, export_number, export_length};
-ghost use Rattle.rules.specs.Promises.{was, left, WroteNumbers, bound_told, LabelNumbers, JobNameNumbers, ExportedNumbers};
+ghost use Rattle.rules.specs.Promises.{WroteNumbers, bound_told, LabelNumbers, JobNameNumbers, ExportedNumbers};
 ghost use Rattle.rules.specs.Refusals.{extension_of};
 ghost use Rattle.stitch_box_c.specs.Exports.{label_number, label_start, label_length, ReadsNumbers, WroteCmdsNumbers, FitsByNumbers, ImportsNumbers};
 
@@ -51,7 +53,7 @@ pub extern "C" fn stitch_box_read(
     block_count: &mut u32,
     cut_count: &mut u32,
 ) -> u32
-    ensures { ReadsNumbers (extension_of (was ext)) (was file) places runs blocks result point_count run_count block_count cut_count }
+    ensures { ReadsNumbers (extension_of ext.now) file.now places runs blocks result point_count run_count block_count cut_count }
 {
     let answer = stitch_box::read(ext, file, places, runs, blocks);
     let c = counts_of(answer);
@@ -64,7 +66,7 @@ pub extern "C" fn stitch_box_read(
 
 // The number of an answer, the label's place being put: its start and its length, or the refusal's number and zeros.
 fn put_label(answer: LabelAnswer, start: &mut u64, len: &mut u64) -> u32
-    ensures { (result ≡ label_number answer) × (left start ≡ label_start answer) × (left len ≡ label_length answer) }
+    ensures { (result ≡ label_number answer) × (start.new ≡ label_start answer) × (len.new ≡ label_length answer) }
 {
     match answer {
         LabelAnswer::Found(p) => {
@@ -88,7 +90,7 @@ pub extern "C" fn stitch_box_label(
     start: &mut u64,
     length: &mut u64,
 ) -> u32
-    ensures { LabelNumbers (extension_of (was ext)) (was file) result (left start) (left length) }
+    ensures { LabelNumbers (extension_of ext.now) file.now result start.new length.new }
 {
     let answer = read_refusals::label_answer(ext, file);
     put_label(answer, start, length)
@@ -96,7 +98,7 @@ pub extern "C" fn stitch_box_label(
 
 // The number of an answer, 1 being put for yes: 0 and 1 or 0, or the refusal's number and 0.
 fn put_fits(answer: FitsAnswer, yes: &mut u32) -> u32
-    ensures { (result ≡ fits_number answer) × (left yes ≡ fits_bit answer) }
+    ensures { (result ≡ fits_number answer) × (yes.new ≡ fits_bit answer) }
 {
     match answer {
         FitsAnswer::Yes => {
@@ -125,7 +127,7 @@ pub extern "C" fn stitch_box_fits(
     bottom: i32,
     answer: &mut u32,
 ) -> u32
-    ensures { FitsByNumbers (extension_of (was ext)) (was file) (record { left = left; right = right; top = top; bottom = bottom }) result answer }
+    ensures { FitsByNumbers (extension_of ext.now) file.now (record { left = left; right = right; top = top; bottom = bottom }) result answer }
 {
     let told = stitch_box::fits(ext, file, left, right, top, bottom);
     put_fits(told, answer)
@@ -133,7 +135,7 @@ pub extern "C" fn stitch_box_fits(
 
 // The number of an answer, its length and distance being put: 0 and these, or the refusal's number and zeros.
 fn put_written(answer: WriteAnswer, length: &mut u64, distance: &mut u32) -> u32
-    ensures { (result ≡ write_number answer) × (left length ≡ write_length answer) × (left distance ≡ write_distance answer) }
+    ensures { (result ≡ write_number answer) × (length.new ≡ write_length answer) × (distance.new ≡ write_distance answer) }
 {
     match answer {
         WriteAnswer::Written(n, far) => {
@@ -162,8 +164,8 @@ pub extern "C" fn stitch_box_write(
     length: &mut u64,
     distance: &mut u32,
 ) -> u32
-    ensures { WroteNumbers (extension_of (was ext)) (was name) (was xs) (was ys) (was kinds) (was threads)
-        (was out) (left out) result (left length) (left distance) }
+    ensures { WroteNumbers (extension_of ext.now) name.now xs.now ys.now kinds.now threads.now
+        out.old out.new result length.new distance.new }
 {
     let answer = stitch_box::write(ext, name, xs, ys, kinds, threads, out);
     put_written(answer, length, distance)
@@ -180,8 +182,8 @@ pub extern "C" fn stitch_box_write_cmds(
     length: &mut u64,
     distance: &mut u32,
 ) -> u32
-    ensures { WroteCmdsNumbers (extension_of (was ext)) (was name) (was cmds) (was threads) (was out) (left out) result
-        (left length) (left distance) }
+    ensures { WroteCmdsNumbers (extension_of ext.now) name.now cmds.now threads.now out.old out.new result
+        length.new distance.new }
 {
     let answer = stitch_box_cmds::write_cmds(ext, name, cmds, threads, out);
     put_written(answer, length, distance)
@@ -190,7 +192,7 @@ pub extern "C" fn stitch_box_write_cmds(
 // `write_bound`.
 #[unsafe(no_mangle)]
 pub extern "C" fn stitch_box_write_bound(ext: &[u8], commands: usize, threads: usize) -> usize
-    ensures { result ≡ bound_told (extension_of (was ext)) commands threads }
+    ensures { result ≡ bound_told (extension_of ext.now) commands threads }
 {
     stitch_box::write_bound(ext, commands, threads)
 }
@@ -229,7 +231,7 @@ pub extern "C" fn stitch_box_import_job(
     command_count: &mut u32,
     thread_bytes: &mut u32,
 ) -> u32
-    ensures { ImportsNumbers (was job) xs ys kinds threads result command_count thread_bytes }
+    ensures { ImportsNumbers job.now xs ys kinds threads result command_count thread_bytes }
 {
     let answer = stitch_box::import_job(job, xs, ys, kinds, threads);
     let n = job_counts(answer);
@@ -241,7 +243,7 @@ pub extern "C" fn stitch_box_import_job(
 // `job_name`, as a place in the job: where it starts and its length, both 0 under a refusal.
 #[unsafe(no_mangle)]
 pub extern "C" fn stitch_box_job_name(job: &[u8], start: &mut u64, length: &mut u64) -> u32
-    ensures { JobNameNumbers (was job) result (left start) (left length) }
+    ensures { JobNameNumbers job.now result start.new length.new }
 {
     let answer = import_job::job_name_answer(job);
     put_label(answer, start, length)
@@ -249,7 +251,7 @@ pub extern "C" fn stitch_box_job_name(job: &[u8], start: &mut u64, length: &mut 
 
 // The number of an export, its length being put: 0 and the length, or the refusal's number and 0.
 fn put_exported(answer: ExportAnswer, size: &mut u64) -> u32
-    ensures { (result ≡ export_number answer) × (left size ≡ export_length answer) }
+    ensures { (result ≡ export_number answer) × (size.new ≡ export_length answer) }
 {
     match answer {
         ExportAnswer::Exported(n) => {
@@ -274,7 +276,7 @@ pub extern "C" fn stitch_box_export_job(
     out: &mut [u8],
     length: &mut u64,
 ) -> u32
-    ensures { ExportedNumbers (was name) (was xs) (was ys) (was kinds) (was threads) (was out) (left out) result (left length) }
+    ensures { ExportedNumbers name.now xs.now ys.now kinds.now threads.now out.old out.new result length.new }
 {
     let answer = stitch_box::export_job(name, xs, ys, kinds, threads, out);
     put_exported(answer, length)

@@ -1,6 +1,8 @@
 // The write of a list that is passed as one slice of command records.
+#![tactic(auto)]
+
 ghost use Rattle.std.specs.Prelude.{◌≡◌, map, ◌≤◌, ltb, length, take};
-ghost use Rattle.rules.specs.Promises.{was, left, xs_of, ys_of, kinds_of, Wrote};
+ghost use Rattle.rules.specs.Promises.{xs_of, ys_of, kinds_of, Wrote};
 ghost use Rattle.rules.specs.Refusals.{extension_of};
 ghost use Rattle.rules.specs.Vocabulary.{pick};
 ghost use Rattle.rules.specs.declared.Extension.TheVariants.{Of};
@@ -23,7 +25,7 @@ fn fitting(n: usize) -> usize
 // The numbers of the first n commands.
 fn unpack(cmds: &[Cmd], n: usize, xs: &mut [i32], ys: &mut [i32], kinds: &mut [u8])
     requires { (n ≤ length cmds.now) × (n ≤ length xs.old) × (n ≤ length ys.old) × (n ≤ length kinds.old) }
-    ensures { Unpacked (take n (was cmds)) (was xs) (was ys) (was kinds) (left xs) (left ys) (left kinds) }
+    ensures { Unpacked (take n cmds.now) xs.old ys.old kinds.old xs.new ys.new kinds.new }
 {
     let mut i: usize = 0;
     while i < n {
@@ -48,7 +50,7 @@ fn write_front(
     out: &mut [u8],
 ) -> WriteAnswer
     requires { (m ≤ length xs.now) × (m ≤ length ys.now) × (m ≤ length kinds.now) }
-    ensures { WroteFront f (was name) n m (was xs) (was ys) (was kinds) (was threads) (was out) (left out) result }
+    ensures { WroteFront f name.now n m xs.now ys.now kinds.now threads.now out.old out.new result }
 {
     if m < n {
         return WriteAnswer::Unwritten(Refusal::BadList);
@@ -64,8 +66,8 @@ pub fn write_cmds_as(
     threads: &[u8],
     out: &mut [u8],
 ) -> WriteAnswer
-    ensures { Wrote (Of f) (was name) (xs_of (was cmds)) (ys_of (was cmds)) (kinds_of (was cmds)) (was threads)
-        (was out) (left out) result }
+    ensures { Wrote (Of f) name.now (xs_of cmds.now) (ys_of cmds.now) (kinds_of cmds.now) threads.now
+        out.old out.new result }
 {
     let n = cmds.len();
     let m = fitting(n);
@@ -84,8 +86,8 @@ pub fn write_cmds(
     threads: &[u8],
     out: &mut [u8],
 ) -> WriteAnswer
-    ensures { Wrote (extension_of (was ext)) (was name) (xs_of (was cmds)) (ys_of (was cmds)) (kinds_of (was cmds)) (was threads)
-        (was out) (left out) result }
+    ensures { Wrote (extension_of ext.now) name.now (xs_of cmds.now) (ys_of cmds.now) (kinds_of cmds.now) threads.now
+        out.old out.new result }
 {
     let named = extension_of(ext);
     let Extension::Of(f) = named else {

@@ -1,5 +1,7 @@
 // The bytes of all commands of a list in DST, EXP and JEF.
 // A port of src/formats/dst.rs and src/formats/more.rs of zigzag, changed.
+#![tactic(auto)]
+
 pub mod pairs;
 pub mod triples;
 
@@ -7,7 +9,6 @@ ghost use Rattle.std.specs.Prelude.{◌≡◌, false, ◌+◌, ◌≤◌, eqb, p
 ghost use Rattle.rules.specs.Vocabulary.{pick, count};
 ghost use Rattle.rules.specs.Lists.{commands, written};
 ghost use Rattle.rules.specs.Refusals.{step_too_long};
-ghost use Rattle.rules.specs.Promises.{was};
 ghost use Rattle.laws.specs.Buffers.{Puts};
 ghost use Rattle.stream_cmd.specs.Cmds.{format_of, cmd_of, kind_in};
 
@@ -44,7 +45,7 @@ fn is_in(lo: u8, hi: u8, kind: u8) -> u16
 // How many of the first n kinds are from lo to hi.
 fn kinds_in(lo: u8, hi: u8, kinds: &[u8], n: usize) -> usize
     requires { (n ≤ length kinds.now) × (n ≤ 65535) }
-    ensures { (result ≡ count (kind_in lo hi) (take n (was kinds))) × (result ≤ n) }
+    ensures { (result ≡ count (kind_in lo hi) (take n kinds.now)) × (result ≤ n) }
 {
     let mut found: u16 = 0;
     let mut i = 0;
@@ -58,7 +59,7 @@ fn kinds_in(lo: u8, hi: u8, kinds: &[u8], n: usize) -> usize
 // The bytes that all commands take. Kind 0 is a stitch, 2 a trim, and 1 to 3 are the kinds that are neither stitch nor end.
 pub fn stream_len(f: Stream, xs: &[i32], ys: &[i32], kinds: &[u8]) -> usize
     requires { length kinds.now ≤ 65535 }
-    ensures { result ≡ length (written (cmd_of f) (pos 0) (pos 0) (commands (was xs) (was ys) (was kinds))) }
+    ensures { result ≡ length (written (cmd_of f) (pos 0) (pos 0) (commands xs.now ys.now kinds.now)) }
 {
     let n = list_len(xs, ys, kinds);
     match f {
@@ -79,7 +80,7 @@ pub fn put_stream(
 ) -> usize
     requires kinds_value { step_too_long (format_of f) (commands xs.now ys.now kinds.now) ≡ false }
     requires kinds_in_bounds { at + length (written (cmd_of f) (pos 0) (pos 0) (commands xs.now ys.now kinds.now)) ≤ length out.old }
-    ensures { Puts out at result (written (cmd_of f) (pos 0) (pos 0) (commands (was xs) (was ys) (was kinds))) }
+    ensures { Puts out at result (written (cmd_of f) (pos 0) (pos 0) (commands xs.now ys.now kinds.now)) }
 {
     match f {
         Stream::Dst => put_triples(xs, ys, kinds, out, at),

@@ -3,7 +3,6 @@
 ghost use Rattle.std.specs.Prelude.{◌++◌, ◌+◌, ◌≤◌, ◌<◌, pos, ◌-ℤ◌, length};
 ghost use Rattle.rules.specs.Lists.{commands, written};
 ghost use Rattle.rules.specs.Exp.{pair_of};
-ghost use Rattle.rules.specs.Promises.{was};
 ghost use Rattle.stream_cmd.specs.declared.Stream.TheVariants.{Exp};
 ghost use Rattle.laws.specs.Buffers.{Puts};
 ghost use Rattle.stream_cmd.specs.Cmds.{cmd_of, pair_stream, Step, Ready, StepAt, bytes_at};
@@ -37,7 +36,7 @@ fn put_at(
 ) -> usize
     requires i_in_bounds { (i < length (commands xs.now ys.now kinds.now)) × StepAt (pair_stream jef) xs.now ys.now i x y }
     requires y_in_bounds { at + length (bytes_at (pair_stream jef) xs.now ys.now kinds.now i x y) ≤ length out.old }
-    ensures { Puts out at result (bytes_at (pair_stream jef) (was xs) (was ys) (was kinds) i x y) }
+    ensures { Puts out at result (bytes_at (pair_stream jef) xs.now ys.now kinds.now i x y) }
 {
     pair_cmd(
         jef,
@@ -59,7 +58,7 @@ pub fn put_pairs(
     at: usize,
 ) -> usize
     requires { Ready (pair_stream jef) xs.now ys.now kinds.now out.old at }
-    ensures { Puts out at result (written (cmd_of (pair_stream jef)) (pos 0) (pos 0) (commands (was xs) (was ys) (was kinds))) }
+    ensures { Puts out at result (written (cmd_of (pair_stream jef)) (pos 0) (pos 0) (commands xs.now ys.now kinds.now)) }
 {
     let n = list_len(xs, ys, kinds);
     let mut x: i32 = 0;

@@ -3,7 +3,6 @@
 ghost use Rattle.std.specs.Prelude.{◌++◌, ◌+◌, ◌≤◌, ◌<◌, pos, ◌-ℤ◌, length};
 ghost use Rattle.rules.specs.Lists.{commands, written};
 ghost use Rattle.rules.specs.Dst.{dst_cmd};
-ghost use Rattle.rules.specs.Promises.{was};
 ghost use Rattle.stream_cmd.specs.declared.Stream.TheVariants.{Dst};
 ghost use Rattle.rules.specs.declared.Op.TheVariants.{Stitch};
 ghost use Rattle.laws.specs.Buffers.{Puts};
@@ -52,7 +51,7 @@ fn put_at(
     requires i_in_bounds { (i < length (commands xs.now ys.now kinds.now)) × StepAt Dst xs.now ys.now i x y }
     requires tables { Tables wide.now high.now }
     requires y_in_bounds { at + length (bytes_at Dst xs.now ys.now kinds.now i x y) ≤ length out.old }
-    ensures { Puts out at result (bytes_at Dst (was xs) (was ys) (was kinds) i x y) }
+    ensures { Puts out at result (bytes_at Dst xs.now ys.now kinds.now i x y) }
 {
     dst_cmd(
         op_of(kinds[i]),
@@ -77,7 +76,7 @@ fn put_records(
 ) -> usize
     requires ready { Ready Dst xs.now ys.now kinds.now out.old at }
     requires tables { Tables wide.now high.now }
-    ensures { Puts out at result (written dst_cmd (pos 0) (pos 0) (commands (was xs) (was ys) (was kinds))) }
+    ensures { Puts out at result (written dst_cmd (pos 0) (pos 0) (commands xs.now ys.now kinds.now)) }
 {
     let n = list_len(xs, ys, kinds);
     let mut x: i32 = 0;
@@ -108,7 +107,7 @@ fn put_records(
 
 pub fn put_triples(xs: &[i32], ys: &[i32], kinds: &[u8], out: &mut [u8], at: usize) -> usize
     requires { Ready Dst xs.now ys.now kinds.now out.old at }
-    ensures { Puts out at result (written dst_cmd (pos 0) (pos 0) (commands (was xs) (was ys) (was kinds))) }
+    ensures { Puts out at result (written dst_cmd (pos 0) (pos 0) (commands xs.now ys.now kinds.now)) }
 {
     let wide = table(true);
     let high = table(false);

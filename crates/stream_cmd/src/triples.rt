@@ -12,7 +12,7 @@ use emit::{put_three, put3};
 use rules::Op;
 
 // The digits of a step, each -1, 0 or 1, by weight.
-#[derive(Drop)]
+#[derive(Clone, Copy)]
 pub struct Digits {
     pub d81: i32,
     pub d27: i32,

@@ -1,5 +1,7 @@
 // Thumbnails: the scale and the two offsets of a picture, and a place's pixel number, in f64.
 // A port of src/formats/pes.rs of zigzag, changed.
+#![tactic(auto)]
+
 ghost use Rattle.std.specs.Prelude.{◌≡◌};
 ghost use Rattle.rules.specs.Thumbnails.{at_least_one, lesser, span_of, middle, scale_by, offset, scale_of, floor_of, within};
 ghost use Rattle.thumbnail_scale.specs.Places.{scaled_at};

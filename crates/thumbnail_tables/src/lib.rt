@@ -1,5 +1,7 @@
 // Thumbnails of long lists: the pixels of all places between the bounds are worked out once, and each stitch looks its own up.
 // A port of src/formats/pes.rs of zigzag, changed.
+#![tactic(auto)]
+
 ghost use Rattle.std.specs.Prelude.{◌≡◌, ℕ, ◌+◌, ◌-◌, ◌<◌, ◌≤◌, ◌++◌, length, drop, replicate, pos, ◌+ℤ◌, ◌-ℤ◌, ◌≤ℤ◌, ◌<ℤ◌, from_bits, unsigned_abs};
 ghost use Rattle.std.specs.Float.{binary64};
 ghost use Rattle.std.specs.Float.Ieee.{lt};
@@ -7,7 +9,6 @@ ghost use Rattle.std.proofs.lemmas.List.Edits.{sets};
 ghost use Rattle.rules.specs.Charts.{blank_icon};
 ghost use Rattle.rules.specs.Lists.{commands};
 ghost use Rattle.rules.specs.Thumbnails.{pixel_at};
-ghost use Rattle.rules.specs.Promises.{was, left};
 ghost use Rattle.laws.specs.Buffers.{Puts};
 ghost use Rattle.thumbnail_tables.specs.Blocks.{block_icons, icons_by};
 ghost use Rattle.thumbnail_tables.specs.Cells.{column_cell, row_cell, cell_of, Filled, Inside, AllInside, bit_set, Framed};
@@ -113,7 +114,7 @@ fn stretch(scale: f64, t: f64, z: i32, most: usize, p: usize) -> usize
 // The same number from i to before j.
 fn fill_same(table: &mut [u16], i: usize, j: usize, v: u16)
     requires { (i ≤ j) × (j ≤ length table.old) }
-    ensures { left table ≡ sets (was table) i (replicate (j - i) v) }
+    ensures { table.new ≡ sets table.old i (replicate (j - i) v) }
 {
     let mut k = i;
     while k < j {
@@ -125,7 +126,7 @@ fn fill_same(table: &mut [u16], i: usize, j: usize, v: u16)
 // The cells of n places from one on.
 fn fill(down: bool, scale: f64, t: f64, from: i32, n: usize, table: &mut [u16])
     requires { (unsigned_abs from ≤ 65536) × ((n ≤ 32768) × (n ≤ length table.old)) }
-    ensures { (length (left table) ≡ length (was table)) × Filled down scale t from n (left table) }
+    ensures { (length table.new ≡ length table.old) × Filled down scale t from n table.new }
 {
     let mut i = 0;
     while i < n {
@@ -148,7 +149,7 @@ fn index_of(from: i32, z: i32) -> usize
 // Sets the bit of a column in a row, given by their cells.
 fn set_bit(icon: &mut [u8], column: u16, row: u16)
     requires { (length icon.old ≡ 228) × Inside column row }
-    ensures { left icon ≡ bit_set (was icon) column row }
+    ensures { icon.new ≡ bit_set icon.old column row }
 {
     let i = (row + column % 256) as usize;
     icon[i] |= (column / 256) as u8;
@@ -158,7 +159,7 @@ fn set_bit(icon: &mut [u8], column: u16, row: u16)
 fn put_rows(icon: &[u8], out: &mut [u8], at: usize) -> usize
     requires icon_len { length icon.now ≡ 228 }
     requires at_in_bounds { at + 228 ≤ length out.old }
-    ensures { Puts out at result (replicate 6 0 ++ drop 6 (was icon)) }
+    ensures { Puts out at result (replicate 6 0 ++ drop 6 icon.now) }
 {
     let rows = put_times(out, at, 0x00, 6);
     put_text(out, rows, &icon[6..])
@@ -184,7 +185,7 @@ fn draw_looked(
     requires all_inside { AllInside w h columns.now rows.now × AllInside w h bcolumns.now brows.now }
     requires framed { Framed left w top h (commands xs.now ys.now kinds.now) }
     requires kinds_in_bounds { at + (228 + length (blocks_looked bcolumns.now brows.now left top blank_icon (commands xs.now ys.now kinds.now))) ≤ length out.old }
-    ensures { Puts out at result (icons_looked (was columns) (was rows) (was bcolumns) (was brows) left top (commands (was xs) (was ys) (was kinds))) }
+    ensures { Puts out at result (icons_looked columns.now rows.now bcolumns.now brows.now left top (commands xs.now ys.now kinds.now)) }
 {
     let n = list_len(xs, ys, kinds);
     let mut icon = pec_icon_blank();
@@ -229,7 +230,7 @@ pub fn put_by_tables(
     requires left_bound { ((unsigned_abs left ≤ 65536) × (w ≤ 32768)) × ((unsigned_abs top ≤ 65536) × (h ≤ 32768)) }
     requires framed { Framed left w top h (commands xs.now ys.now kinds.now) }
     requires kinds_in_bounds { at + (228 + length (block_icons part (commands xs.now ys.now kinds.now))) ≤ length out.old }
-    ensures { Puts out at result (icons_by whole part (commands (was xs) (was ys) (was kinds))) }
+    ensures { Puts out at result (icons_by whole part (commands xs.now ys.now kinds.now)) }
 {
     let mut columns = [0u16; 32768];
     let mut rows = [0u16; 32768];

@@ -1,11 +1,12 @@
 // PEC's thumbnails: 38 rows of 6 bytes, the lowest bit leftmost.
 // A port of src/formats/pes.rs of zigzag, changed.
+#![tactic(auto)]
+
 ghost use Rattle.std.specs.Prelude.{◌≡◌, true, ◌+◌, ◌≤◌, nat_abs, ◌-ℤ◌, length, drop};
 ghost use Rattle.std.proofs.Math.Seq.{slice};
 ghost use Rattle.rules.specs.Charts.{blank_icon};
 ghost use Rattle.rules.specs.Lists.{is_change, commands};
 ghost use Rattle.rules.specs.Thumbnails.{pixel, painted, marked, drawn, icons};
-ghost use Rattle.rules.specs.Promises.{was, left};
 ghost use Rattle.laws.specs.Buffers.{Puts};
 ghost use Rattle.geom.specs.Frames.{bounds_of};
 ghost use Rattle.thumbnail_tables.specs.Blocks.{block_icons, icons_by};
@@ -23,7 +24,7 @@ use thumbnail_tables::put_by_tables;
 // Sets a pixel; none outside the thumbnail, and none in row 0.
 fn set_pixel(icon: &mut [u8], x: usize, y: usize)
     requires { length icon.old ≡ 228 }
-    ensures { left icon ≡ pixel (was icon) x y }
+    ensures { icon.new ≡ pixel icon.old x y }
 {
     if 48 <= x {
         return;
@@ -39,7 +40,7 @@ fn set_pixel(icon: &mut [u8], x: usize, y: usize)
 }
 
 // A pixel by the places that lie in it: from left to before right and from top to before bottom.
-#[derive(Drop)]
+#[derive(Clone, Copy)]
 pub struct Cell {
     pub left: f64,
     pub right: f64,
@@ -98,7 +99,7 @@ fn cell_of(x: usize, y: usize) -> Cell
 // Paints the place of a stitch, unless it lies in the cell painted last. Answers the cell painted last.
 fn paint(s: Scale, icon: &mut [u8], last: Cell, x: i32, y: i32) -> Cell
     requires { (length icon.old ≡ 228) × Seen last icon.old }
-    ensures { (left icon ≡ painted s (was icon) x y) × Seen result (left icon) }
+    ensures { (icon.new ≡ painted s icon.old x y) × Seen result icon.new }
 {
     let across = scaled(x, s.scale, s.tx);
     let down = scaled(y, s.scale, s.ty);
@@ -114,7 +115,7 @@ fn paint(s: Scale, icon: &mut [u8], last: Cell, x: i32, y: i32) -> Cell
 // A stitch paints its place, any other command nothing.
 fn mark(s: Scale, icon: &mut [u8], last: Cell, op: Op, x: i32, y: i32) -> Cell
     requires { (length icon.old ≡ 228) × Seen last icon.old }
-    ensures { (left icon ≡ marked s (was icon) op x y) × Seen result (left icon) }
+    ensures { (icon.new ≡ marked s icon.old op x y) × Seen result icon.new }
 {
     let Op::Stitch = op else {
         return last;
@@ -125,7 +126,7 @@ fn mark(s: Scale, icon: &mut [u8], last: Cell, op: Op, x: i32, y: i32) -> Cell
 // The thumbnail of the commands from `from` to before `to`.
 fn draw_scaled(s: Scale, xs: &[i32], ys: &[i32], kinds: &[u8], from: usize, to: usize) -> [u8; 228]
     requires { (from ≤ to) × (to ≤ length (commands xs.now ys.now kinds.now)) }
-    ensures { result ≡ drawn s blank_icon (slice from to (commands (was xs) (was ys) (was kinds))) }
+    ensures { result ≡ drawn s blank_icon (slice from to (commands xs.now ys.now kinds.now)) }
 {
     let mut icon = pec_icon_blank();
     let mut last = no_cell();
@@ -150,7 +151,7 @@ fn is_change(op: Op) -> bool
 // Where the colour block that begins at `from` ends: at the next colour change, or at the end of the list.
 fn block_end(xs: &[i32], ys: &[i32], kinds: &[u8], from: usize) -> usize
     requires { from ≤ length (commands xs.now ys.now kinds.now) }
-    ensures { result ≡ from + change_from (drop from (commands (was xs) (was ys) (was kinds))) }
+    ensures { result ≡ from + change_from (drop from (commands xs.now ys.now kinds.now)) }
 {
     let n = list_len(xs, ys, kinds);
     let mut i = from;
@@ -173,7 +174,7 @@ fn put_icon(icon: [u8; 228], out: &mut [u8], at: usize) -> usize
 // A thumbnail for each colour block.
 fn put_blocks(s: Scale, xs: &[i32], ys: &[i32], kinds: &[u8], out: &mut [u8], at: usize) -> usize
     requires { at + length (block_icons s (commands xs.now ys.now kinds.now)) ≤ length out.old }
-    ensures { Puts out at result (block_icons s (commands (was xs) (was ys) (was kinds))) }
+    ensures { Puts out at result (block_icons s (commands xs.now ys.now kinds.now)) }
 {
     let n = list_len(xs, ys, kinds);
     let mut from = 0;
@@ -233,7 +234,7 @@ fn put_plainly(
     at: usize,
 ) -> usize
     requires { at + (228 + length (block_icons part (commands xs.now ys.now kinds.now))) ≤ length out.old }
-    ensures { Puts out at result (icons_by whole part (commands (was xs) (was ys) (was kinds))) }
+    ensures { Puts out at result (icons_by whole part (commands xs.now ys.now kinds.now)) }
 {
     let n = list_len(xs, ys, kinds);
     let blocks = put_icon(draw_scaled(whole, xs, ys, kinds, 0, n), out, at);
@@ -251,7 +252,7 @@ pub fn put_icons(
 ) -> usize
     requires b_value { b ≡ bounds_of (commands xs.now ys.now kinds.now) }
     requires kinds_in_bounds { at + length (icons (commands xs.now ys.now kinds.now)) ≤ length out.old }
-    ensures { Puts out at result (icons (commands (was xs) (was ys) (was kinds))) }
+    ensures { Puts out at result (icons (commands xs.now ys.now kinds.now)) }
 {
     let n = list_len(xs, ys, kinds);
     let whole = scale_of(b.min.x, b.min.y, b.max.x, b.max.y, 4.0);

@@ -5,7 +5,6 @@ ghost use Rattle.rules.specs.Lists.{commands, threads_of};
 ghost use Rattle.rules.specs.Refusals.{place_outside};
 ghost use Rattle.rules.specs.Thumbnails.{color_blocks};
 ghost use Rattle.rules.specs.Vp3.{stitch_of, or_black, stitches_from, color_parts};
-ghost use Rattle.rules.specs.Promises.{was, left};
 ghost use Rattle.laws.specs.Buffers.{Puts};
 ghost use Rattle.vp3.specs.Heads.{Wide, NearWay, block_text};
 ghost use Rattle.vp3.specs.Blocks.{Close, Left, Rest, between, end_of, Scanned, Known, Listed, ScannedAll};
@@ -17,14 +16,14 @@ use rules::Color;
 use vp3_cmd::{cmd_len, last_stitch, put_cmd, put_stitch, stitch_len};
 
 // The bytes of a block's stitches, and the place behind its last command.
-#[derive(Drop)]
+#[derive(Clone, Copy)]
 pub struct Scan {
     pub len: usize,
     pub end: usize,
 }
 
 // The bytes of all stitches, and how many blocks there are.
-#[derive(Drop)]
+#[derive(Clone, Copy)]
 pub struct Scans {
     pub len: usize,
     pub blocks: usize,
@@ -56,7 +55,7 @@ fn two_len(x: i32, y: i32, nx: i32, ny: i32, mx: i32, my: i32) -> usize
 // The last command of a list, if it is left: a block of which `len` bytes are counted ends with it, or before it.
 fn scan_last(xs: &[i32], ys: &[i32], kinds: &[u8], i: usize, px: i32, py: i32, len: usize) -> Scan
     requires { Left xs.now ys.now kinds.now i px py len }
-    ensures { Rest (was xs) (was ys) (was kinds) i px py len result }
+    ensures { Rest xs.now ys.now kinds.now i px py len result }
 {
     let n = list_len(xs, ys, kinds);
     if n <= i {
@@ -77,7 +76,7 @@ fn scan_block(xs: &[i32], ys: &[i32], kinds: &[u8], from: usize, x: i32, y: i32)
     requires kinds_len_bound { (length kinds.now ≤ 65535) × (from ≤ length (commands xs.now ys.now kinds.now)) }
     requires kinds_value { place_outside (commands xs.now ys.now kinds.now) ≡ false }
     requires x_bound { (nat_abs x ≤ 16000) × (nat_abs y ≤ 16000) }
-    ensures { Scanned (commands (was xs) (was ys) (was kinds)) from x y result }
+    ensures { Scanned (commands xs.now ys.now kinds.now) from x y result }
 {
     let n = list_len(xs, ys, kinds);
     let mut px = x;
@@ -112,7 +111,7 @@ fn scan_block(xs: &[i32], ys: &[i32], kinds: &[u8], from: usize, x: i32, y: i32)
 // Where a block from command `from` to before `end` ends, if it starts at z.
 fn end_of(zs: &[i32], from: usize, end: usize, z: i32) -> i32
     requires { (from ≤ end) × (end ≤ length zs.now) }
-    ensures { result ≡ end_of z (between (was zs) from end) }
+    ensures { result ≡ end_of z (between zs.now from end) }
 {
     if from < end {
         return zs[end - 1];
@@ -130,7 +129,7 @@ pub fn scan_list(
 ) -> Scans
     requires known { Known xs.now ys.now kinds.now }
     requires in_bounds { (256 ≤ length ends.old) × (256 ≤ length lens.old) }
-    ensures { ScannedAll (commands (was xs) (was ys) (was kinds)) (left ends) (left lens) result }
+    ensures { ScannedAll (commands xs.now ys.now kinds.now) ends.new lens.new result }
 {
     let n = list_len(xs, ys, kinds);
     let mut x: i32 = 0;
@@ -180,7 +179,7 @@ fn put_stitches(
     requires kinds_value { place_outside (commands xs.now ys.now kinds.now) ≡ false }
     requires x_bound { (nat_abs x ≤ 16000) × (nat_abs y ≤ 16000) }
     requires end_in_bounds { at + length (stitches_from x y (between (commands xs.now ys.now kinds.now) from end)) ≤ length out.old }
-    ensures { Puts out at result (stitches_from x y (between (commands (was xs) (was ys) (was kinds)) from end)) }
+    ensures { Puts out at result (stitches_from x y (between (commands xs.now ys.now kinds.now) from end)) }
 {
     let mut px = x;
     let mut py = y;
@@ -214,7 +213,7 @@ fn put_stitches(
 // Thread k, black where there are too few.
 fn thread(threads: &[u8], k: usize) -> Color
     requires { k ≤ 255 }
-    ensures { result ≡ or_black (drop k (threads_of (was threads))) }
+    ensures { result ≡ or_black (drop k (threads_of threads.now)) }
 {
     if threads.len() < 3 * k + 3 {
         return Color(0, 0, 0);
@@ -239,7 +238,7 @@ fn put_block(
     requires kinds_value { place_outside (commands xs.now ys.now kinds.now) ≡ false }
     requires wide { Wide m × NearWay w }
     requires end_in_bounds { at + (57 + length (stitches_from w.x w.y (between (commands xs.now ys.now kinds.now) from end))) ≤ length out.old }
-    ensures { Puts out at result (block_text m w c ++ stitches_from w.x w.y (between (commands (was xs) (was ys) (was kinds)) from end) ++ 0x00 ∷ []) }
+    ensures { Puts out at result (block_text m w c ++ stitches_from w.x w.y (between (commands xs.now ys.now kinds.now) from end) ++ 0x00 ∷ []) }
 {
     let stitches = put_block_head(m, w, c, out, at);
     let last = put_stitches(xs, ys, kinds, from, end, w.x, w.y, out, stitches);
@@ -262,7 +261,7 @@ pub fn put_blocks(
     requires known { Known xs.now ys.now kinds.now × Wide m }
     requires listed { Listed (commands xs.now ys.now kinds.now) n ends.now lens.now }
     requires kinds_in_bounds { at + length (color_parts m.x m.y (pos 0) (pos 0) (threads_of threads.now) (color_blocks (commands xs.now ys.now kinds.now))) ≤ length out.old }
-    ensures { Puts out at result (color_parts m.x m.y (pos 0) (pos 0) (threads_of (was threads)) (color_blocks (commands (was xs) (was ys) (was kinds)))) }
+    ensures { Puts out at result (color_parts m.x m.y (pos 0) (pos 0) (threads_of threads.now) (color_blocks (commands xs.now ys.now kinds.now))) }
 {
     let mut x: i32 = 0;
     let mut y: i32 = 0;

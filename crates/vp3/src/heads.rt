@@ -11,14 +11,14 @@ use rules::Color;
 use vp3_cmd::{half, put_be16, put_be32, put_hundred, put_text16};
 
 // Twice the centre of a design.
-#[derive(Drop)]
+#[derive(Clone, Copy)]
 pub struct Middle {
     pub x: i32,
     pub y: i32,
 }
 
 // A block of commands: where it starts and ends, and the bytes of its stitches.
-#[derive(Drop)]
+#[derive(Clone, Copy)]
 pub struct Way {
     pub x: i32,
     pub y: i32,

@@ -1,6 +1,8 @@
 // VP3: opening, file part, design part, colour blocks. Each length stands before what it counts, so the stitches of all blocks are
 // counted first.
 // A port of src/formats/more.rs of zigzag, changed.
+#![tactic(auto)]
+
 pub mod blocks;
 pub mod heads;
 
@@ -8,7 +10,7 @@ ghost use Rattle.std.specs.Prelude.{◌≡◌, [], ◌≤◌, ◌<◌, ◌+ℤ�
 ghost use Rattle.rules.specs.Files.{write_answer};
 ghost use Rattle.rules.specs.Lists.{commands, threads_of};
 ghost use Rattle.rules.specs.Vp3.{vp3_file};
-ghost use Rattle.rules.specs.Promises.{was, left, Wrote};
+ghost use Rattle.rules.specs.Promises.{Wrote};
 ghost use Rattle.rules.specs.declared.Extension.TheVariants.{Of};
 ghost use Rattle.rules.specs.declared.Format.TheVariants.{Vp3};
 ghost use Rattle.laws.specs.Buffers.{Puts};
@@ -54,7 +56,7 @@ fn write_accepted(
     out: &mut [u8],
 ) -> WriteAnswer
     requires { Known xs.now ys.now kinds.now × (1 ≤ length kinds.now) }
-    ensures { Answered (write_answer 0) (vp3_file (commands (was xs) (was ys) (was kinds)) (threads_of (was threads))) (was out) (left out) result }
+    ensures { Answered (write_answer 0) (vp3_file (commands xs.now ys.now kinds.now) (threads_of threads.now)) out.old out.new result }
 {
     let mut ends = [0usize; 256];
     let mut lens = [0usize; 256];
@@ -88,7 +90,7 @@ pub fn write_vp3(
     threads: &[u8],
     out: &mut [u8],
 ) -> WriteAnswer
-    ensures { Wrote (Of Vp3) [] (was xs) (was ys) (was kinds) (was threads) (was out) (left out) result }
+    ensures { Wrote (Of Vp3) [] xs.now ys.now kinds.now threads.now out.old out.new result }
 {
     let checked = check_list(Format::Vp3, xs, ys, kinds, threads);
     match checked {

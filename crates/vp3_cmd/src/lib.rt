@@ -1,9 +1,10 @@
 // VP3: numbers with the high byte first, texts, and the bytes of one command.
 // A port of src/formats/more.rs of zigzag, changed.
+#![tactic(auto)]
+
 ghost use Rattle.std.specs.Prelude.{◌≡◌, ◌&&◌, map, [], ◌∷◌, ℕ, ◌+◌, ◌*◌, ◌≤◌, ◌<◌, pos, neg_ℤ, nat_abs, ◌*ℤ◌, length};
 ghost use Rattle.rules.specs.Vocabulary.{between, bits_of, joined};
 ghost use Rattle.rules.specs.Vp3.{big, toward_zero, hundred, text16, stitch_of, vp3_cmd, last_stitch};
-ghost use Rattle.rules.specs.Promises.{was};
 ghost use Rattle.laws.specs.Buffers.{Puts};
 ghost use Rattle.vp3_cmd.specs.Long.{long_of};
 
@@ -63,7 +64,7 @@ pub fn half(z: i32) -> i32
 // The bytes of a text in UTF-16.
 fn put_wide(out: &mut [u8], at: usize, text: &[u8]) -> usize
     requires { at + 2 * length text.now ≤ length out.old }
-    ensures { Puts out at result (joined (map (λ (b : ℕ). 0x00 ∷ b ∷ []) (was text))) }
+    ensures { Puts out at result (joined (map (λ (b : ℕ). 0x00 ∷ b ∷ []) text.now)) }
 {
     let mut i = 0;
     let mut to = at;
@@ -77,7 +78,7 @@ fn put_wide(out: &mut [u8], at: usize, text: &[u8]) -> usize
 // A text in UTF-16 behind its length.
 pub fn put_text16(out: &mut [u8], at: usize, text: &[u8]) -> usize
     requires { (length text.now ≤ 32767) × (at + 2 + 2 * length text.now ≤ length out.old) }
-    ensures { Puts out at result (text16 (was text)) }
+    ensures { Puts out at result (text16 text.now) }
 {
     let wide = put_be16(out, at, 2 * text.len());
     put_wide(out, wide, text)

@@ -1,5 +1,7 @@
 // write_job JOB OUT: writes the job as the machine's file that OUT's extension asks for. An old OUT is replaced once the new file is
 // whole. What is refused or fails is told on standard error.
+#![tactic(auto)]
+
 ghost use Rattle.std.specs.Prelude.{◌≤◌};
 
 use command_line::{FileAnswer, argument, extension, read_file, refused, replace_file, usage};

@@ -1,11 +1,12 @@
 // What is asked of a list of commands and its threads before it is written or exported: refusals 6 to 10.
 // Each check goes over the whole list, for slices of any lengths, with no early exit: so its loop compiles to vector instructions.
+#![tactic(auto)]
+
 ghost use Rattle.std.specs.Prelude.{◌≡◌, false, ◌&&◌, not, ◌≤◌, ltb, length};
 ghost use Rattle.rules.specs.Vocabulary.{between, eq_z, any, count};
 ghost use Rattle.rules.specs.Lists.{commands, op_of, ends_once, placed, same_place, is_change, stands};
 ghost use Rattle.rules.specs.Refusals.{number_of, bad_list, place_outside, changes, too_many, moved, step_too_long, least_step, greatest_step};
 ghost use Rattle.rules.specs.Refusals.{command_verdict, list_verdict};
-ghost use Rattle.rules.specs.Promises.{was};
 
 use rules::{
     Format, GREATEST_PLACE, LEAST_PLACE, MOST_CHANGES, MOST_COMMANDS, MOST_THREADS, Refusal,
@@ -48,7 +49,7 @@ fn is_same(a: i32, b: i32) -> bool
 
 // 6: a kind over 4.
 fn kind_over(kinds: &[u8]) -> bool
-    ensures { result ≡ any (ltb 4) (was kinds) }
+    ensures { result ≡ any (ltb 4) kinds.now }
 {
     let mut bad = false;
     let mut i = 0;
@@ -61,7 +62,7 @@ fn kind_over(kinds: &[u8]) -> bool
 
 // 6: the last kind, and only that, is an end.
 fn ends_once(kinds: &[u8]) -> bool
-    ensures { result ≡ ends_once (was kinds) }
+    ensures { result ≡ ends_once kinds.now }
 {
     if kinds.len() == 0 {
         return false;
@@ -76,7 +77,7 @@ fn ends_once(kinds: &[u8]) -> bool
 }
 
 pub fn bad_list(xs: &[i32], ys: &[i32], kinds: &[u8]) -> bool
-    ensures { result ≡ bad_list (was xs) (was ys) (was kinds) }
+    ensures { result ≡ bad_list xs.now ys.now kinds.now }
 {
     let n = kinds.len();
     if n == 0 {
@@ -105,7 +106,7 @@ pub fn is_placed(x: i32, y: i32) -> bool
 
 // 7: a place outside the range.
 pub fn place_outside(xs: &[i32], ys: &[i32], kinds: &[u8]) -> bool
-    ensures { result ≡ place_outside (commands (was xs) (was ys) (was kinds)) }
+    ensures { result ≡ place_outside (commands xs.now ys.now kinds.now) }
 {
     let n = formats::list_len(xs, ys, kinds);
     let mut bad = false;
@@ -127,7 +128,7 @@ pub fn is_change(kind: u8) -> bool
 // How many commands change the colour.
 pub fn color_changes(xs: &[i32], ys: &[i32], kinds: &[u8]) -> usize
     requires { length kinds.now ≤ 65535 }
-    ensures { result ≡ count changes (commands (was xs) (was ys) (was kinds)) }
+    ensures { result ≡ count changes (commands xs.now ys.now kinds.now) }
 {
     let n = formats::list_len(xs, ys, kinds);
     let mut found: u16 = 0;
@@ -142,7 +143,7 @@ pub fn color_changes(xs: &[i32], ys: &[i32], kinds: &[u8]) -> usize
 // 8: too many colour changes or threads, or thread bytes not a multiple of three.
 pub fn too_many(xs: &[i32], ys: &[i32], kinds: &[u8], threads: &[u8]) -> bool
     requires { length kinds.now ≤ 65535 }
-    ensures { result ≡ too_many (commands (was xs) (was ys) (was kinds)) (was threads) }
+    ensures { result ≡ too_many (commands xs.now ys.now kinds.now) threads.now }
 {
     if MOST_CHANGES < color_changes(xs, ys, kinds) {
         return true;
@@ -174,7 +175,7 @@ pub fn moves(kind: u8, x0: i32, y0: i32, x: i32, y: i32) -> bool
 
 // 9: a trim, colour change or end that moves.
 pub fn moved(xs: &[i32], ys: &[i32], kinds: &[u8]) -> bool
-    ensures { result ≡ moved (commands (was xs) (was ys) (was kinds)) }
+    ensures { result ≡ moved (commands xs.now ys.now kinds.now) }
 {
     let n = formats::list_len(xs, ys, kinds);
     let mut x: i32 = 0;
@@ -223,7 +224,7 @@ fn is_step_in(lo: i32, hi: i32, dx: i32, dy: i32) -> bool
 // 10: a step past the format's limit.
 pub fn step_too_long(f: Format, xs: &[i32], ys: &[i32], kinds: &[u8]) -> bool
     requires { place_outside (commands xs.now ys.now kinds.now) ≡ false }
-    ensures { result ≡ step_too_long f (commands (was xs) (was ys) (was kinds)) }
+    ensures { result ≡ step_too_long f (commands xs.now ys.now kinds.now) }
 {
     let n = formats::list_len(xs, ys, kinds);
     let lo = least_step(f);
@@ -245,7 +246,7 @@ pub fn step_too_long(f: Format, xs: &[i32], ys: &[i32], kinds: &[u8]) -> bool
 
 // The first of refusals 6 to 9 that holds, each over the whole list before the next.
 pub fn check_commands(xs: &[i32], ys: &[i32], kinds: &[u8], threads: &[u8]) -> Verdict
-    ensures { result ≡ command_verdict (was xs) (was ys) (was kinds) (was threads) }
+    ensures { result ≡ command_verdict xs.now ys.now kinds.now threads.now }
 {
     if bad_list(xs, ys, kinds) {
         return Verdict::Refused(Refusal::BadList);
@@ -264,7 +265,7 @@ pub fn check_commands(xs: &[i32], ys: &[i32], kinds: &[u8], threads: &[u8]) -> V
 
 // The first of refusals 6 to 10 that holds.
 pub fn check_list(f: Format, xs: &[i32], ys: &[i32], kinds: &[u8], threads: &[u8]) -> Verdict
-    ensures { result ≡ list_verdict f (was xs) (was ys) (was kinds) (was threads) }
+    ensures { result ≡ list_verdict f xs.now ys.now kinds.now threads.now }
 {
     let checked = check_commands(xs, ys, kinds, threads);
     let Verdict::Accepted = checked else {

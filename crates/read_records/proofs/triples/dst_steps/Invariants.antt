@@ -1,0 +1,15 @@
+-- The three entries of each four bits passed are right.
+use mathlib.Core.Path.{◌≡◌, ◌∙◌}
+use Prim.Native.Nat.{ℕ, ◌-◌, ◌≤◌, ◌<◌}
+use native.Mathlib.Omega.{arith}
+use lib.ListN.{length, length-set}
+use mir.Syntax.{w32}
+use Rattle.laws.specs.Ints.{ret}
+use Rattle.read_records.proofs.DstTables.{Entries, entries-more}
+use Rattle.read_records.proofs.triples.dst_steps.Given as goal
+
+abbrev pub invariant-loop-n : goal.invariant-loop-n
+invariant-loop-n l = (length l.steps ≡ 48) × ((l.n ≤ 16) × ((k : ℕ) → k < l.n → Entries l.y l.steps k))
+
+abbrev pub decreases-loop-n : goal.decreases-loop-n
+decreases-loop-n l = 16 - l.n

@@ -1,0 +1,15 @@
+-- Both entries of each byte passed are right.
+use mathlib.Core.Path.{◌≡◌, ◌∙◌}
+use Prim.Native.Nat.{ℕ, ◌-◌, ◌≤◌, ◌<◌}
+use native.Mathlib.Omega.{arith}
+use lib.ListN.{length, length-set}
+use mir.Syntax.{w32}
+use Rattle.laws.specs.Ints.{ret}
+use Rattle.read_records.proofs.PecTables.{Entries, entries-more}
+use Rattle.read_records.proofs.words.pec_steps.Given as goal
+
+abbrev pub invariant-loop-n : goal.invariant-loop-n
+invariant-loop-n l = (length l.steps ≡ 512) × ((l.n ≤ 256) × ((k : ℕ) → k < l.n → Entries l.steps k))
+
+abbrev pub decreases-loop-n : goal.decreases-loop-n
+decreases-loop-n l = 256 - l.n
