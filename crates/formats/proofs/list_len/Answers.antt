@@ -1,0 +1,9 @@
+-- `list_len` meets its contract: the shortest of the three slices. Assumes nothing.
+use native.Mathlib.Omega.{arith}
+use Rattle.laws.specs.Listing.{length-commands}
+use borrow.Author.Rules.{rules}
+use Rattle.formats.proofs.list_len.Goals as goal
+
+pub returns : goal.returns
+returns c = let a = c.args in
+    omega (arith, c.smaller.ensures, c.smaller-n.ensures, length-commands a.xs.now a.ys.now a.kinds.now)

@@ -1,0 +1,6 @@
+-- `takes` meets its contract. Assumes nothing.
+use borrow.Author.Rules.{rules}
+use Rattle.formats.proofs.takes.Goals as goal
+
+pub returns : goal.returns
+returns c = rw c.in-Near.is
