@@ -10,9 +10,7 @@ use Rattle.rules.specs.declared.Nearest.TheVariants.{Near, NoThread}
 use Rattle.rules.specs.declared.Slot.{Slot}
 use Rattle.laws.specs.Choosing.{found_in, found_in_lem}
 use Rattle.pec_threads.specs.Codes.{code_of}
-use borrow.Author.Rules.{rules}
-use Rattle.pec_threads.proofs.code_in.Statement.{statement}
-use Rattle.pec_threads.proofs.code_in.Tie as tie
+use Rattle.pec_threads.proofs.code_in.Goals as goal
 
 module _ (t : Color) {chart : List Slot} {f : Nearest} (p : chart ≡ pec_palette) (e : f ≡ nearest_answer t chart) where
   -- what the call found, in the chart of the rules
@@ -27,14 +25,9 @@ module _ (t : Color) {chart : List Slot} {f : Nearest} (p : chart ≡ pec_palett
   unfolding found_or
   none h = rw (told h)
 
-returns : tie.Need-returns
-returns c = none c.before.before.before.args.t c.before.before.before.requires c.before.before.nearest-index.ensures c.enum_told.given.1
+pub returns-in_default : goal.returns-in_default
+returns-in_default c = none c.args.t c.requires c.nearest_index-found.ensures c.in_default.is
 
-returns-2 : tie.Need-returns-2
-returns-2 c =
-    let nearest-index = c.before.before.before.nearest-index in let start = c.before.before.before.before in
-    some start.args.t start.requires nearest-index.ensures c.before.found.given.1
-
-pub code-in-spec : {M : Type 1} → statement M
-code-in-spec =
-    tie.close (tie.spec (λ c κs. search rules) (λ c. search rules) (λ c. search rules) returns returns-2)
+pub returns : goal.returns
+returns c = let nearest-index = c.nearest_index-found in
+    some c.args.t c.requires nearest-index.ensures c.in-Near.is
