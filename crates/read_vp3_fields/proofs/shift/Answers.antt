@@ -6,15 +6,13 @@ use lib.IntN.{ℤ, pos, ◌-ℤ◌, nat_abs}
 use mir.Syntax.{w64}
 use mir.Val.{to_z}
 use mir.Facts.{to_z_pos, to_z-of_z}
-use borrow.Author.Rules.{rules}
 use Rattle.rules.specs.Vocabulary.{signed}
 use Rattle.rules.specs.Vp3.{toward_zero}
 use Rattle.laws.specs.Ints.{ints, abs_neg}
 use Rattle.laws.specs.Tests.{pick-ge}
 use Rattle.laws.specs.Twos.{signed_low}
 use Rattle.read_vp3_fields.proofs.Within.{zero-sub}
-use Rattle.read_vp3_fields.proofs.shift.Statement.{statement}
-use Rattle.read_vp3_fields.proofs.shift.Tie as tie
+use Rattle.read_vp3_fields.proofs.shift.Goals as goal
 
 below : (n : ℕ) → n < 2147483648 → toward_zero (signed 31 n) 100 ≡ pos (n / 100)
 unfolding toward_zero
@@ -33,18 +31,12 @@ read n h = to_z_pos w64 (omega arith)
 size : (k : ℕ) → nat_abs (pos 0 -ℤ pos k) ≡ k
 size k = ap nat_abs (zero-sub (pos k)) ∙ abs_neg (pos k)
 
-sub-result : tie.Need-overflow-sub-result
-sub-result c = let n = c.before.args.n in rw (read (4294967296 - n) (omega arith)) (omega ints)
+pub returns-then-n-lt2147483648 : goal.returns-then-n-lt2147483648
+returns-then-n-lt2147483648 c = let n = c.args.n in rw (read n (omega arith)) (sym (below n c.if-n-lt2147483648.true), omega arith)
 
-returns-2 : tie.Need-returns-2
-returns-2 c =
-    let n = c.before.args.n in
-    rw (to_z-of_z (sub-result c), read (4294967296 - n) (omega arith)) (sym (above n c.if1.false (omega arith)), omega (arith, size ((4294967296 - n) / 100)))
+pub overflow_sub-result : goal.overflow_sub-result
+overflow_sub-result c = let n = c.args.n in rw (read (4294967296 - n) (omega arith)) (omega ints)
 
-pub shift-spec : {M : Type 1} → statement M
-shift-spec =
-    tie.close
-    (tie.spec
-    (λ c. search rules)
-    (λ c. let n = c.before.args.n in rw (read n (omega arith)) (sym (below n c.if1.true), omega arith))
-    (λ c. search rules) (λ c. search rules) sub-result returns-2)
+pub returns : goal.returns
+returns c = let n = c.args.n in
+    rw (to_z-of_z (overflow_sub-result c), read (4294967296 - n) (omega arith)) (sym (above n c.if-n-lt2147483648.false (omega arith)), omega (arith, size ((4294967296 - n) / 100)))
