@@ -5,8 +5,7 @@ use native.Mathlib.Omega.{arith}
 use borrow.Author.Tests.{lt-ltb}
 use lib.Dec.{ltb}
 use Rattle.rules.specs.Lists.{op_of, stands}
-use Rattle.write_refusals.proofs.is_standing.Statement.{statement}
-use Rattle.write_refusals.proofs.is_standing.Tie as tie
+use Rattle.write_refusals.proofs.is_standing.Goals as goal
 
 by_kind : (k : ℕ) → ltb 1 k ≡ stands (op_of k)
 unfolding op_of stands
@@ -16,5 +15,5 @@ by_kind (suc (suc zero)) = refl
 by_kind (suc (suc (suc zero))) = refl
 by_kind (suc (suc (suc (suc n)))) = lt-ltb 1 (suc (suc (suc (suc n)))) (omega arith)
 
-pub is-standing-spec : {M : Type 1} → statement M
-is-standing-spec = tie.close (tie.spec (λ c. by_kind c.args.kind))
+pub returns : goal.returns
+returns c = by_kind c.args.kind

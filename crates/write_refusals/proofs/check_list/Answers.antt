@@ -12,9 +12,7 @@ use Rattle.rules.specs.declared.Refusal.TheVariants.{StepTooLong}
 use Rattle.rules.specs.declared.Verdict.{Verdict}
 use Rattle.rules.specs.declared.Verdict.TheVariants.{Accepted, Refused}
 use Rattle.laws.specs.Verdicts.{first-false, verdict-on, verdict-stop}
-use borrow.Author.Rules.{rules}
-use Rattle.write_refusals.proofs.check_list.Statement.{statement}
-use Rattle.write_refusals.proofs.check_list.Tie as tie
+use Rattle.write_refusals.proofs.check_list.Goals as goal
 
 -- v is what was told of 6 to 9
 module _ (xs ys : List ℤ) (kinds threads : List ℕ) {v : Verdict} (t : v ≡ command_verdict xs ys kinds threads) where
@@ -32,22 +30,18 @@ module _ (xs ys : List ℤ) (kinds threads : List ℕ) {v : Verdict} (t : v ≡ 
   unfolding command_verdict list_verdict list_refusals
   steps f e w = rw w (sym (verdict-on (command_refusals xs ys kinds threads) _ (sym t ∙ e)))
 
-returns-2 : tie.Need-returns-2
-unfolding verdict
-returns-2 c =
-    let checked = c.before.before.before.before in
-    rw c.if1.true at (steps _ _ _ _ checked.check-commands.ensures _ c.before.before.enum_told.given.1 c.before.step-too-long.ensures)
+pub returns-in_default : goal.returns-in_default
+returns-in_default c = refused _ _ _ _ c.check_commands-checked.ensures _ c.in_default.is
 
-returns-3 : tie.Need-returns-3
-unfolding verdict
-returns-3 c =
-    let checked = c.before.before.before.before in
-    rw c.if1.false at (steps _ _ _ _ checked.check-commands.ensures _ c.before.before.enum_told.given.1 c.before.step-too-long.ensures)
+pub step_too_long-requires : goal.step_too_long-requires
+step_too_long-requires c = places _ _ _ _ c.check_commands-checked.ensures c.in-Accepted.is
 
-pub check-list-spec : {M : Type 1} → statement M
-check-list-spec =
-    tie.close
-    (tie.spec
-    (λ c κs. search rules) (λ c. search rules) (λ c. search rules)
-    (λ c. refused _ _ _ _ c.before.before.check-commands.ensures _ c.enum-told2.given.1)
-    (λ c κs. places _ _ _ _ c.before.before.check-commands.ensures c.enum_told.given.1) returns-2 returns-3)
+pub returns-then-step_too_long : goal.returns-then-step_too_long
+unfolding verdict
+returns-then-step_too_long c =
+    rw c.if-step_too_long.true at (steps _ _ _ _ c.check_commands-checked.ensures _ c.in-Accepted.is c.step_too_long.ensures)
+
+pub returns : goal.returns
+unfolding verdict
+returns c =
+    rw c.if-step_too_long.false at (steps _ _ _ _ c.check_commands-checked.ensures _ c.in-Accepted.is c.step_too_long.ensures)

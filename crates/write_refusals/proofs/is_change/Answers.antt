@@ -5,8 +5,7 @@ use native.Mathlib.Omega.{arith}
 use borrow.Author.Tests.{ne_eqb}
 use lib.Dec.{eqb}
 use Rattle.rules.specs.Lists.{op_of, is_change}
-use Rattle.write_refusals.proofs.is_change.Statement.{statement}
-use Rattle.write_refusals.proofs.is_change.Tie as tie
+use Rattle.write_refusals.proofs.is_change.Goals as goal
 
 by_kind : (k : ℕ) → eqb k 3 ≡ is_change (op_of k)
 unfolding op_of is_change
@@ -16,5 +15,5 @@ by_kind (suc (suc zero)) = refl
 by_kind (suc (suc (suc zero))) = refl
 by_kind (suc (suc (suc (suc n)))) = ne_eqb (suc (suc (suc (suc n)))) 3 (λ e. omega arith)
 
-pub is-change-spec : {M : Type 1} → statement M
-is-change-spec = tie.close (tie.spec (λ c. by_kind c.args.kind))
+pub returns : goal.returns
+returns c = by_kind c.args.kind
