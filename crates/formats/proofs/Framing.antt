@@ -120,12 +120,12 @@ Read zs n = (j : ℕ) → j < n → mag (get_or zs j (pos 0)) < 2 ^ 31
 -- ---- in numbers of 16 bits
 
 -- four numbers that hold the places before i; n is the number of commands
-pub record Near (xs ys : List ℤ) (ks : List ℕ) (n i x0 y0 x1 y1 : ℕ) : Type 0 where
-  pub left : SFits w16 (to_z w16 x0)
-  pub top : SFits w16 (to_z w16 y0)
-  pub right : SFits w16 (to_z w16 x1)
-  pub bottom : SFits w16 (to_z w16 y1)
-  pub framed : Framed 32767 xs ys ks n i (frame (to_z w16 x0) (to_z w16 y0) (to_z w16 x1) (to_z w16 y1))
+pub record Near (xs ys : List ℤ) (ks : List ℕ) (n i : ℕ) (x0 y0 x1 y1 : ℤ) : Type 0 where
+  pub left : SFits w16 x0
+  pub top : SFits w16 y0
+  pub right : SFits w16 x1
+  pub bottom : SFits w16 y1
+  pub framed : Framed 32767 xs ys ks n i (frame x0 y0 x1 y1)
 
 -- what is read back from its bits fits
 pub fits-back : (w : Width) (z : ℤ) → mag z < 2 ^ hbits w → SFits w (to_z w (of_z w z))

@@ -85,7 +85,7 @@ abbrev pub read : ℤ → ℤ
 read z = to_z w32 (of_z w32 z)
 
 read_small : (z : ℤ) → nat_abs z ≤ 2048 → read z ≡ z
-read_small z h = to_z-of_z (omega (ints, abs_is z))
+read_small z h = to_z-of_z {w = w32} (omega (ints, abs_is z))
 
 module _ {xs ys : List ℤ} {ks : List ℕ} {n i : ℕ} {s : State} {last c : Cmd} {by : P} (t : Took xs ys ks n i s last c by) where
   pub few : i < length ks

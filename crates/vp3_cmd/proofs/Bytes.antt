@@ -1,9 +1,9 @@
 -- Numbers of two and of four bytes as code divides them, and a text in UTF-16 byte by byte. Assumes nothing.
 use Prim.Native.Nat.{ℕ, ◌+◌, ◌*◌, ◌/◌, ◌%◌, ◌<◌}
-use mathlib.Core.Path.{◌≡◌, refl, ap, ◌∙◌}
+use mathlib.Core.Path.{◌≡◌, refl, ap}
 use mathlib.Core.List.{List, [], ◌∷◌, ◌++◌, map}
 use native.Mathlib.Omega.{arith}
-use lib.ListN.{length, drop, get_or, length-append}
+use lib.ListN.{length, drop, get_or}
 use Rattle.rules.specs.Vocabulary.{joined}
 use Rattle.rules.specs.Vp3.{big}
 use Rattle.laws.specs.Decimals.{text-more}

@@ -1,17 +1,15 @@
 -- Halves toward zero, and a stitch in two bytes or in eight. Assumes nothing.
-use Prim.Native.Nat.{ℕ, suc, ◌/◌, ◌≤◌, ◌<◌}
+use Prim.Native.Nat.{◌/◌, ◌≤◌, ◌<◌}
 use mathlib.Core.Path.{◌≡◌, refl}
 use mathlib.Core.Bool.{Bool, true, false, ◌&&◌}
 use mathlib.Core.List.{[], ◌∷◌}
 use native.Mathlib.Omega.{arith}
-use types.Run.{OneOf, miss}
-use denote.Enum.Declared.{tag_of}
 use lib.IntN.{ℤ, pos, negsuc, neg_ℤ, nat_abs}
-use Rattle.rules.specs.contracts.Op.{the_type}
+use Rattle.std.proofs.Common.{◌⊎◌, inl, inr}
 use Rattle.rules.specs.Vocabulary.{between, bits_of}
 use Rattle.rules.specs.Vp3.{toward_zero, stitch_of, vp3_cmd}
 use Rattle.rules.specs.declared.Op.{Op}
-use Rattle.rules.specs.declared.Op.TheVariants.{Stitch, Jump, Trim, ColorChange, End}
+use Rattle.rules.specs.declared.Op.TheVariants.{Jump, Trim, ColorChange, End}
 use Rattle.laws.specs.Tests.{and_left, and_right}
 use Rattle.laws.specs.Ints.{up, dn, ints, abs-le, between-true}
 use Rattle.vp3_cmd.specs.Long.{long_of}
@@ -48,19 +46,11 @@ module _ (dx dy : ℤ) where
 -- ---- a command by its operation
 
 -- a jump or a colour change
-pub nothing : (o : Op) (dx dy : ℤ) → OneOf (1 ∷ 3 ∷ []) (tag_of the_type o) → vp3_cmd o dx dy ≡ []
+pub nothing : (o : Op) (dx dy : ℤ) → (o ≡ Jump) ⊎ (o ≡ ColorChange) → vp3_cmd o dx dy ≡ []
 unfolding vp3_cmd
-nothing Stitch dx dy k = absurd (miss (1 ∷ 3 ∷ []) 0 tt k)
-nothing Jump dx dy k = refl
-nothing Trim dx dy k = absurd (miss (1 ∷ 3 ∷ []) 2 tt k)
-nothing ColorChange dx dy k = refl
-nothing End dx dy k = absurd (miss (1 ∷ 3 ∷ []) 4 tt k)
+nothing o dx dy k = elim k [ inl e ↦ rw e | inr e ↦ rw e ]
 
 -- a trim or the end
-pub ends-run : (o : Op) (dx dy : ℤ) → OneOf (2 ∷ 4 ∷ []) (tag_of the_type o) → vp3_cmd o dx dy ≡ 0x80 ∷ 0x03 ∷ []
+pub ends-run : (o : Op) (dx dy : ℤ) → (o ≡ Trim) ⊎ (o ≡ End) → vp3_cmd o dx dy ≡ 0x80 ∷ 0x03 ∷ []
 unfolding vp3_cmd
-ends-run Stitch dx dy k = absurd (miss (2 ∷ 4 ∷ []) 0 tt k)
-ends-run Jump dx dy k = absurd (miss (2 ∷ 4 ∷ []) 1 tt k)
-ends-run Trim dx dy k = refl
-ends-run ColorChange dx dy k = absurd (miss (2 ∷ 4 ∷ []) 3 tt k)
-ends-run End dx dy k = refl
+ends-run o dx dy k = elim k [ inl e ↦ rw e | inr e ↦ rw e ]

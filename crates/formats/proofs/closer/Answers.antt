@@ -9,7 +9,6 @@ use Rattle.rules.specs.declared.Nearest.TheVariants.{Near}
 use Rattle.rules.specs.declared.Slot.{Slot}
 use Rattle.rules.specs.declared.Slot.TheVariants.{Thread}
 use Rattle.formats.specs.Closer.{takes_over, closer_of}
-use borrow.Author.Rules.{rules}
 use Rattle.formats.proofs.closer.Goals as goal
 
 module _ (c : Color) (best : Nearest) (i : ℕ) {s : Slot} {t : Color} {d : ℕ} (e : s ≡ Thread t) (f : d ≡ distance c t) where

@@ -1,7 +1,6 @@
 -- `color_distance` meets its contract. Assumes nothing.
 use mathlib.Core.Path.{◌∙◌}
 use Rattle.rules.specs.Choices.{distance}
-use borrow.Author.Rules.{rules}
 use Rattle.formats.proofs.color_distance.Goals as goal
 
 pub returns : goal.returns

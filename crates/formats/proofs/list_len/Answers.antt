@@ -1,7 +1,6 @@
 -- `list_len` meets its contract: the shortest of the three slices. Assumes nothing.
 use native.Mathlib.Omega.{arith}
 use Rattle.laws.specs.Listing.{length-commands}
-use borrow.Author.Rules.{rules}
 use Rattle.formats.proofs.list_len.Goals as goal
 
 pub returns : goal.returns

@@ -1,7 +1,6 @@
 -- `lower` meets its contract. Assumes nothing.
 use Rattle.rules.specs.Refusals.{lower}
 use borrow.Author.Tests.{le-leb, lt-leb}
-use borrow.Author.Rules.{rules}
 use Rattle.formats.proofs.lower.Goals as goal
 
 pub returns-then-b-lt65 : goal.returns-then-b-lt65

@@ -1,5 +1,4 @@
 -- `takes` meets its contract. Assumes nothing.
-use borrow.Author.Rules.{rules}
 use Rattle.formats.proofs.takes.Goals as goal
 
 pub returns : goal.returns

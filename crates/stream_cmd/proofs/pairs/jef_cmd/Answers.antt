@@ -1,0 +1,44 @@
+-- Each operation writes its bytes; a trim has none.
+use borrow.Author.Rules.{rules}
+use Rattle.rules.specs.Exp.{pair_of}
+use Rattle.rules.specs.Jef.{jef_cmd}
+use Rattle.laws.specs.Buffers.{put-nothing}
+use Rattle.stream_cmd.specs.Cmds.{most}
+use Rattle.stream_cmd.proofs.Arms.{back-small, arm-room, arm-puts}
+use Rattle.stream_cmd.proofs.pairs.jef_cmd.Goals as goal
+
+pub put_pair-requires : goal.put_pair-requires
+unfolding jef_cmd pair_of most
+put_pair-requires c = search (rules, back-small, arm-room jef_cmd)
+
+pub put_jump-requires : goal.put_jump-requires
+unfolding jef_cmd pair_of most
+put_jump-requires c = search (rules, back-small, arm-room jef_cmd)
+
+pub put4-requires : goal.put4-requires
+unfolding jef_cmd pair_of most
+put4-requires c = search (arm-room jef_cmd)
+
+pub put2-requires : goal.put2-requires
+unfolding jef_cmd pair_of most
+put2-requires c = search (arm-room jef_cmd)
+
+pub returns-in-Stitch : goal.returns-in-Stitch
+unfolding jef_cmd pair_of most
+returns-in-Stitch c = search (arm-puts jef_cmd)
+
+pub returns-in-Jump : goal.returns-in-Jump
+unfolding jef_cmd
+returns-in-Jump c = search (arm-puts jef_cmd)
+
+pub returns-in-Trim : goal.returns-in-Trim
+unfolding jef_cmd pair_of most
+returns-in-Trim c = search (arm-puts jef_cmd, put-nothing)
+
+pub returns-in-ColorChange : goal.returns-in-ColorChange
+unfolding jef_cmd pair_of most
+returns-in-ColorChange c = search (arm-puts jef_cmd)
+
+pub returns-in-End : goal.returns-in-End
+unfolding jef_cmd pair_of most
+returns-in-End c = search (arm-puts jef_cmd)

@@ -1,0 +1,10 @@
+-- The two bytes of the step.
+use mir.Facts.{to_z-of_z}
+use Rattle.rules.specs.Exp.{pair_of}
+use Rattle.laws.specs.Buffers.{put_as}
+use Rattle.stream_cmd.proofs.pairs.put_pair.Goals as goal
+
+pub returns : goal.returns
+unfolding pair_of
+returns c = let f = c.ranges in
+    put_as c.put2.ensures (cc (c.low_byte.ensures, to_z-of_z f.dx, to_z-of_z f.dy))
