@@ -16,9 +16,7 @@ use Rattle.rules.specs.declared.Slot.{Slot}
 use Rattle.rules.specs.declared.Slot.TheVariants.{Empty}
 use Rattle.laws.specs.Neighbours.{chosen_at, jef-nearest-told, jef-choice-told}
 use Rattle.jef_threads.specs.Distances.{entry_in}
-use borrow.Author.Rules.{rules}
-use Rattle.jef_threads.proofs.choice_in.Statement.{statement}
-use Rattle.jef_threads.proofs.choice_in.Tie as tie
+use Rattle.jef_threads.proofs.choice_in.Goals as goal
 
 -- the chart's entry 0 is empty as it is
 zeroth : jef_palette ≡ set jef_palette 0 Empty
@@ -54,43 +52,27 @@ module _ (t : Color) {last : Previous} {i n : ℕ} {u : Color} (e : last ≡ Ent
   unfolding jef_choice
   unlike h s = rw (e, s, ← f, eq-eqb n i h)
 
-returns : tie.Need-returns
-returns c =
-    let at-nearest-first = c.before.before in let start = at-nearest-first.before in
-    let t = start.args.t in
-    plain t start.requires at-nearest-first.nearest-first.ensures ∙ jef-choice-told start.args.last t (first t c.enum_told.given.1)
+pub returns-in_default : goal.returns-in_default
+returns-in_default c =
+    let t = c.args.t in
+    plain t c.requires c.nearest_first-nearest.ensures ∙ jef-choice-told c.args.last t (first t c.in_default.is)
 
-returns-2 : tie.Need-returns-2
-returns-2 c =
-    let at-entry-of = c.before in let at_last = at-entry-of.before.before in let at-nearest-first = at_last.before.before in
-    let start = at-nearest-first.before in
-    let t = start.args.t in
-    let near = plain t start.requires at-nearest-first.nearest-first.ensures in
-    near ∙ jef-choice-told start.args.last t (another t at_last.last.given.1 (entry-is t near at-entry-of.entry_of.ensures) c.if1.true)
+pub returns-then-entry_of-i : goal.returns-then-entry_of-i
+returns-then-entry_of-i c =
+    let t = c.args.t in
+    let near = plain t c.requires c.nearest_first-nearest.ensures in
+    near ∙ jef-choice-told c.args.last t (another t c.in-Entry.is (entry-is t near c.entry_of.ensures) c.if-entry_of-i.true)
 
-returns-3 : tie.Need-returns-3
-returns-3 c =
-    let at-same-color = c.before in let at-entry-of = at-same-color.before.before in let at_last = at-entry-of.before.before in
-    let at-nearest-first = at_last.before.before in let start = at-nearest-first.before in
-    let t = start.args.t in
-    let near = plain t start.requires at-nearest-first.nearest-first.ensures in
-    near ∙ jef-choice-told start.args.last t
-    (alike t at_last.last.given.1 (entry-is t near at-entry-of.entry_of.ensures) (sym at-same-color.same-color.ensures ∙ c.if2.true))
+pub returns-then-same_color : goal.returns-then-same_color
+returns-then-same_color c =
+    let t = c.args.t in
+    let near = plain t c.requires c.nearest_first-nearest.ensures in
+    near ∙ jef-choice-told c.args.last t
+    (alike t c.in-Entry.is (entry-is t near c.entry_of.ensures) (sym c.same_color.ensures ∙ c.if-same_color.true))
 
-returns-4 : tie.Need-returns-4
-returns-4 c =
-    let at-if2 = c.before in let at-same-color = at-if2.before in let at-if1 = at-same-color.before in
-    let at-entry-of = at-if1.before in let at_last = at-entry-of.before.before in let at-nearest-first = at_last.before.before in
-    let start = at-nearest-first.before in
-    let t = start.args.t in
-    let last' = at_last.last.given.1 in
-    let near = plain t start.requires at-nearest-first.nearest-first.ensures in
-    but t start.requires _ c.nearest-but.ensures ∙ jef-choice-told start.args.last t
-    (unlike t last' (entry-is t near at-entry-of.entry_of.ensures) at-if1.if1.false (sym at-same-color.same-color.ensures ∙ at-if2.if2.false))
-
-pub choice-in-spec : {M : Type 1} → statement M
-choice-in-spec =
-    tie.close
-    (tie.spec
-    (λ c κs. search rules) (λ c. search rules) (λ c. search rules) returns (λ c κs. search rules) returns-2
-    (λ c κs. search rules) returns-3 (λ c κs. search rules) returns-4)
+pub returns : goal.returns
+returns c = let t = c.args.t in
+    let last' = c.in-Entry.is in
+    let near = plain t c.requires c.nearest_first-nearest.ensures in
+    but t c.requires _ c.nearest_but.ensures ∙ jef-choice-told c.args.last t
+    (unlike t last' (entry-is t near c.entry_of.ensures) c.if-entry_of-i.false (sym c.same_color.ensures ∙ c.if-same_color.false))
