@@ -2,26 +2,33 @@
 ghost use Rattle.command_line.specs.Files.{Within};
 
 use super::FileAnswer;
-use super::names::new_name;
+use super::names::{new_name, path};
+use super::words::failed;
+use std::fs::{File, OpenFile, OpenOptions};
+use std::io::{Read, Write};
+use std::random::RandomSource;
+use std::rt::Files;
+use std::{fs, io};
 
 // One read to the front of a buffer. It reads nothing only at the end of the file, or if there is no room.
-fn read_some(fd: i32, name: &[u8], buf: &mut [u8]) -> FileAnswer
+fn read_some<F: Read>(file: &mut F, err: &impl Print, name: &[u8], buf: &mut [u8]) -> FileAnswer
     ensures { Within result buf.new }
 {
-    let got = libc::read(fd, buf);
-    if got < 0 {
-        os::fail(name);
-        return FileAnswer::Failed;
+    match file.read(buf) {
+        Ok(n) => FileAnswer::Read(n),
+        Err(why) => {
+            failed(err, name, why);
+            FileAnswer::Failed
+        }
     }
-    FileAnswer::Read(io::count(got, buf))
 }
 
-fn read_all(fd: i32, name: &[u8], buf: &mut [u8]) -> FileAnswer
+fn read_all<F: Read>(file: &mut F, err: &impl Print, name: &[u8], buf: &mut [u8]) -> FileAnswer
     ensures { Within result buf.new }
 {
     let mut n = 0;
     while n < buf.len() {
-        let some = read_some(fd, name, &mut buf[n..]);
+        let some = read_some(file, err, name, &mut buf[n..]);
         let FileAnswer::Read(more) = some else {
             return FileAnswer::Failed;
         };
@@ -33,70 +40,75 @@ fn read_all(fd: i32, name: &[u8], buf: &mut [u8]) -> FileAnswer
     FileAnswer::Read(n)
 }
 
-// Reads a file to the front of a buffer, until it ends or the buffer is full. So a buffer that is a byte longer than a file may be tells
-// one that is too long.
-pub fn read_file(name: &[u8], buf: &mut [u8]) -> FileAnswer
-    ensures { Within result buf.new }
-{
-    let fd = os::open_read(name);
-    if fd < 0 {
-        os::fail(name);
-        return FileAnswer::Failed;
-    }
-    let answer = read_all(fd, name, buf);
-    libc::close(fd);
-    answer
+fn open<R: Files>(rt: &R, name: &[u8]) -> io::Result<R::File> {
+    File::open(rt, path(name)?)
 }
 
-// Writes all bytes to a new file, waits until its device has them, and closes it.
-fn fill(fd: i32, name: &[u8], bytes: &[u8]) -> bool {
-    if !io::write_all(fd, bytes) {
-        os::fail(name);
-        libc::close(fd);
-        return false;
+// Reads a file to the front of a buffer, until it ends or the buffer is full. So a buffer that is a byte longer than a file may be tells
+// one that is too long.
+pub fn read_file<R: Files>(rt: &R, err: &impl Print, name: &[u8], buf: &mut [u8]) -> FileAnswer
+    ensures { Within result buf.new }
+{
+    match open(rt, name) {
+        Ok(mut file) => read_all(&mut file, err, name, buf),
+        Err(why) => {
+            failed(err, name, why);
+            FileAnswer::Failed
+        }
     }
-    if libc::fsync(fd) < 0 {
-        os::fail(name);
-        libc::close(fd);
-        return false;
-    }
-    if libc::close(fd) < 0 {
-        os::fail(name);
-        return false;
-    }
-    true
+}
+
+// Writes all bytes to a new file, and waits until its device has them.
+fn fill<F: Write + OpenFile>(file: &mut F, bytes: &[u8]) -> io::Result<()> {
+    file.write_all(bytes)?;
+    file.sync_all()
+}
+
+// A file that was not there before.
+fn create<R: Files>(rt: &R, new: &str) -> io::Result<R::File> {
+    OpenOptions::new()
+        .write(true)
+        .create_new(true)
+        .open(rt, new)
 }
 
 // Makes a file under a new name and fills it. One that is not filled is removed.
-fn make(new: &[u8], name: &[u8], bytes: &[u8]) -> bool {
-    let fd = os::create(new);
-    if fd < 0 {
-        os::fail(name);
-        return false;
+fn make<R: Files>(rt: &R, new: &str, bytes: &[u8]) -> io::Result<()> {
+    let mut file = create(rt, new)?;
+    let filled = fill(&mut file, bytes);
+    if filled.is_err() {
+        let _ = fs::remove_file(rt, new);
     }
-    if !fill(fd, name, bytes) {
-        os::unlink(new);
-        return false;
+    filled
+}
+
+// Makes a file under a new name beside the one of a name, and then gives it that name.
+fn replace<R: Files + RandomSource>(rt: &R, name: &[u8], bytes: &[u8]) -> io::Result<()> {
+    let old = path(name)?;
+    let mut room = [0u8; 4096];
+    let n = new_name(rt, name, &mut room)?;
+    let new = path(&room[..n])?;
+    make(rt, new, bytes)?;
+    let renamed = fs::rename(rt, new, old);
+    if renamed.is_err() {
+        let _ = fs::remove_file(rt, new);
     }
-    true
+    renamed
 }
 
 // Makes a file of these bytes, or puts it in the place of the one that has the name: it is made under a new name in the same folder and
 // then renamed. Where a call fails, an old file is as it was, the new one is removed, and the answer is false.
-pub fn replace_file(name: &[u8], bytes: &[u8]) -> bool {
-    let mut new = io::buffer();
-    let n = new_name(name, &mut new);
-    if n == 0 {
-        os::fail(name);
-        return false;
+pub fn replace_file<R: Files + RandomSource>(
+    rt: &R,
+    err: &impl Print,
+    name: &[u8],
+    bytes: &[u8],
+) -> bool {
+    match replace(rt, name, bytes) {
+        Ok(()) => true,
+        Err(why) => {
+            failed(err, name, why);
+            false
+        }
     }
-    if !make(&new[..n], name, bytes) {
-        return false;
-    }
-    if os::rename(&new[..n], name) < 0 {
-        os::fail(name);
-        os::unlink(&new[..n]);
-        return false;
-    }
-    true
 }

@@ -7,11 +7,13 @@ mod names;
 mod numbers;
 mod words;
 
-ghost use Rattle.io.specs.Counts.{IsPrefixLen};
+ghost use Rattle.command_line.specs.Files.{IsPrefixLen};
 
 pub use files::{read_file, replace_file};
 pub use names::extension;
 pub use numbers::number_in;
+use std::env::FillError;
+use std::rt::Env;
 pub use words::{refused, usage};
 
 // An argument at the front of a buffer: its length, and whether all of it is there.
@@ -36,12 +38,26 @@ pub enum FileAnswer {
 }
 
 // Argument i, of which there is nothing if it is missing or longer than the buffer. The program's own name is argument 0.
-pub fn argument(i: usize, buf: &mut [u8]) -> ArgumentAnswer
+pub fn argument(rt: &impl Env, i: usize, buf: &mut [u8]) -> ArgumentAnswer
     ensures { IsPrefixLen result.len buf.new }
 {
-    let len = os::arg(i, buf);
-    ArgumentAnswer {
-        len: len,
-        whole: os::errno() == 0,
+    match rt.arg(i, buf) {
+        Ok(n) => ArgumentAnswer {
+            len: n,
+            whole: true,
+        },
+        Err(_) => ArgumentAnswer {
+            len: 0,
+            whole: false,
+        },
+    }
+}
+
+// Whether there is an argument i.
+pub fn is_given(rt: &impl Env, i: usize) -> bool {
+    match rt.arg(i, &mut []) {
+        Ok(_) => true,
+        Err(FillError::TooLong) => true,
+        Err(FillError::NotPresent) => false,
     }
 }

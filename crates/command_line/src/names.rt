@@ -1,11 +1,15 @@
 // Parts of a file's name, and a name for a new file.
-ghost use Rattle.std.specs.Prelude.{◌≡◌, ◌≤◌, eqb, length};
-ghost use Rattle.io.specs.Counts.{IsPrefixLen};
+ghost use Rattle.std.specs.Prelude.{◌≡◌, ◌≤◌, eqb, length, IfOk, OnErr};
 ghost use Rattle.rules.specs.Vocabulary.{last_where};
+ghost use Rattle.command_line.specs.Files.{IsPrefixLen};
 ghost use Rattle.command_line.specs.Names.{up_to, after_last_dot};
 
+use std::io;
+use std::io::ErrorKind;
+use std::random::RandomSource;
+
 // How many bytes a name has up to the last `b`, with that one; 0 if there is none.
-fn up_to_last(name: &[u8], b: u8) -> usize
+pub fn up_to_last(name: &[u8], b: u8) -> usize
     ensures { (result ≤ length name.now) × (result ≡ up_to (last_where (eqb b) name.now)) }
 {
     let mut n = name.len();
@@ -60,18 +64,25 @@ fn to_letters(bytes: &mut [u8]) {
     }
 }
 
-// Puts a name that no file should have into a buffer, and answers its length: the folder of a file, `part-` and 16 random letters. 0 if
-// the system gives no random bytes. A name that has no room fills the buffer.
-pub fn new_name(beside: &[u8], to: &mut [u8]) -> usize
-    ensures { IsPrefixLen result to.new }
+// Puts a name that no file should have into a buffer, and answers its length: the folder of a file, `part-` and 16 random letters. An
+// error if the system gives no random bytes. A name that has no room fills the buffer.
+pub fn new_name(rt: &impl RandomSource, beside: &[u8], to: &mut [u8]) -> io::Result<usize>
+    ensures ok { IfOk result (λ n. IsPrefixLen n to.new) }
+    ensures err { OnErr result (to.new ≡ to.old) }
 {
     let mut random = [0u8; 16];
-    if libc::getentropy(&mut random) < 0 {
-        return 0;
-    }
+    rt.fill_bytes(&mut random)?;
     to_letters(&mut random);
     let folder = up_to_last(beside, b'/');
     let mut n = put(to, 0, &beside[..folder]);
     n = put(to, n, b"part-");
-    put(to, n, &random)
+    Ok(put(to, n, &random))
+}
+
+// A file's name as a path, which std has of UTF-8 only.
+pub fn path(name: &[u8]) -> io::Result<&str> {
+    match std::str::from_utf8(name) {
+        Ok(text) => Ok(text),
+        Err(_) => Err(io::Error::new(ErrorKind::InvalidInput, "not UTF-8")),
+    }
 }

@@ -1,13 +1,12 @@
 -- Jobs: the fields unfold by one, whatever the fuel, and the rows of a content by one. Assumes nothing.
-use Rattle.std.specs.Prelude.{ℕ, suc, ◌+◌, ◌*◌, ◌≤◌, ◌<◌, ◌≡◌, refl, Bool, true, false, ◌||◌, not, List, [], ◌∷◌, ◌++◌, ltb, ℤ, length, take, drop, get_or}
-use Rattle.std.proofs.Common.{ap, ◌∙◌, arith, ltb-false, length-drop}
+use Rattle.std.specs.Prelude.{ℕ, suc, ◌+◌, ◌*◌, ◌≤◌, ◌<◌, ◌≡◌, refl, Bool, true, false, ◌||◌, not, List, [], ◌∷◌, ltb, length, take, drop, get_or}
+use Rattle.std.proofs.Common.{ap, arith, ltb-false, length-drop}
 use Rattle.rules.specs.Vocabulary.{pick, any, signed, from_little}
 use Rattle.rules.specs.Jobs.{Fields, ended, field, bad_tag, bad_length, follows, length_allowed, rows_of, unknown_kind, rows_in, content_then, field_then, fields_from}
 use Rattle.rules.specs.declared.Cmd.{Cmd}
 use Rattle.rules.specs.declared.Verdict.TheVariants.{Accepted}
 use Rattle.laws.specs.Fuel.{fuelled-step}
 use Rattle.laws.specs.Listing.{list-more}
-use Rattle.laws.specs.Tests.{by-test, or-no-left}
 
 -- ---- fields
 

@@ -85,7 +85,7 @@ unfolding run_of
 no_run R k e = rw e refl
 
 -- so the buffers stay
-hopped-on : {s : List ℕ} {c : ℕ → ℕ} {b : Builder} {at : ℕ} {P P' : List ℤ} {R R' B B' : List ℕ} {q q₂ : Builder} {i i₂ : ℕ}
+hopped-on : {s : List ℕ} {c : ℕ → ℕ} {b : Builder} {at : ℕ} {P P' : List ℤ} {R R' B B' : List ℕ} {q : Builder} {i : ℕ} {q₂ : Builder} {i₂ : ℕ}
     → Went Pec s c b at P R B q i P' R' B' → q.run ≡ 0 → Hopped s q i q₂ i₂ → Went Pec s c b at P R B q₂ i₂ P' R' B'
 hopped-on w z none = w
 hopped-on {s = s} {c = c} {R' = R'} w z (more {q = q} h e) = one_on Pec s c (hopped-on w z h) e refl refl refl (no_run R' q.runs (shut z h)) refl

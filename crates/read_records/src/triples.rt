@@ -101,6 +101,7 @@ pub fn dst_dy(steps: &[i32], a: u8, b: u8, c: u8) -> i32
 }
 
 // The third byte, tested in the order of `read_dst`: end, colour change, jump.
+#[tactic(auto, unfolding(rules::specs::Dst::dst_record, rules::specs::Dst::under))]
 fn kind(c: u8, dx: i32, dy: i32) -> Record
     ensures { result ≡ dst_record c dx dy }
 {

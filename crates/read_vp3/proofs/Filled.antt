@@ -1,27 +1,19 @@
 -- What the stitches of a block and its end add to the answers. Assumes nothing.
-use Prim.Native.Nat.{ℕ, zero, suc, ◌+◌, ◌-◌, ◌*◌, ◌^◌, ◌≤◌, ◌<◌}
+use Prim.Native.Nat.{ℕ, zero, suc, ◌+◌, ◌*◌, ◌≤◌}
 use mathlib.Core.Path.{◌≡◌, refl, sym, ap, ap₂, ◌∙◌}
-use mathlib.Core.Bool.{Bool, true, false}
 use mathlib.Core.List.{List, [], ◌∷◌, ◌++◌, append_assoc, append-nil}
 use native.Mathlib.Omega.{arith}
-use native.Mathlib.Nat.{add-zero, zero-add, suc-add}
-use native.Mathlib.Numerals.{add-one}
-use lib.Dec.{ltb}
-use lib.IntN.{ℤ, pos, ◌+ℤ◌, ◌-ℤ◌}
+use native.Mathlib.Nat.{zero-add}
+use lib.IntN.{ℤ, ◌+ℤ◌, ◌-ℤ◌}
 use lib.ListN.{length, drop, length-append}
-use lib.Seq.{sets}
-use Rattle.rules.specs.Vocabulary.{pick}
-use Rattle.rules.specs.Answers.{places, runs, blocks, start_of, run_of, block_of, points_after, begun_after}
-use Rattle.rules.specs.Limits.{block_cells_of}
+use Rattle.rules.specs.Answers.{places, runs, blocks, start_of, run_of, block_of}
 use Rattle.rules.specs.Records.{Event, stitch, jump, change}
 use Rattle.rules.specs.Vp3.{Blocks, ended, block, stitch_events, reach_x, reach_y, change_to, events_in}
 use Rattle.rules.specs.declared.Color.{Color}
-use Rattle.laws.specs.Buffers.{sets-append}
 use Rattle.laws.specs.Ints.{parts, add-law, sub-law}
-use Rattle.laws.specs.Tests.{by-test}
-use Rattle.read_builder.specs.Builders.{some, added, stitched, jumped, changed}
+use Rattle.read_builder.specs.Builders.{stitched, jumped, changed}
 use Rattle.read_builder.specs.declared.Builder.{Builder}
-use Rattle.read_builder.proofs.Parts.{run_cells, block_cells, point-cells, sizes}
+use Rattle.read_builder.proofs.Parts.{run_cells, point-cells, sizes}
 use Rattle.read_vp3_stitches.specs.Fills.{built, runs_ended, places_on, Spare}
 use Rattle.read_vp3_stitches.specs.Steps.{StepAt}
 use Rattle.read_vp3_stitches.specs.declared.steps.Step.{Step}

@@ -9,18 +9,18 @@ use lib.Dec.{eqb, ltb}
 use lib.IntN.{ℤ, pos, ◌+ℤ◌}
 use lib.ListN.{length, drop, length-append}
 use Rattle.rules.specs.Vocabulary.{pick}
-use Rattle.rules.specs.Answers.{places, runs, blocks, start_of, run_of, block_of, points_after, begun_after, point_total, block_total, cuts}
+use Rattle.rules.specs.Answers.{places, runs, blocks, points_after, begun_after, point_total, block_total, cuts}
 use Rattle.rules.specs.Files.{counts_of}
 use Rattle.rules.specs.Limits.{block_cells_of}
 use Rattle.rules.specs.Records.{Event, stitch, jump, change}
-use Rattle.rules.specs.Vp3.{Blocks, ended, block, stitch_events, reach_x, reach_y, change_to, events_in}
+use Rattle.rules.specs.Vp3.{Blocks, ended, block, stitch_events, change_to, events_in}
 use Rattle.rules.specs.declared.Counts.{Counts}
 use Rattle.laws.specs.Tests.{by-test}
 use Rattle.read_builder.specs.Builders.{some, added}
 use Rattle.read_builder.proofs.Parts.{run_cells, block_cells, point-cells}
 use Rattle.read_count.specs.Tallies.{no_tally, tallied, tallied_change}
 use Rattle.read_count.specs.declared.tally.Tally.{Tally}
-use Rattle.read_vp3_stitches.specs.Steps.{StepAt, next_of}
+use Rattle.read_vp3_stitches.specs.Steps.{StepAt}
 use Rattle.read_vp3_stitches.specs.Tallies.{tally_all, Spare}
 use Rattle.read_vp3_stitches.specs.declared.steps.Step.{Step}
 use Rattle.read_vp3_stitches.specs.declared.steps.Step.TheVariants.{Stitch, EndRun, Nothing, Finish}

@@ -1,5 +1,5 @@
 -- The first pass over the colour blocks: what is to come of the fault and of the counts is the same from block to block.
-use Rattle.std.specs.Prelude.{ℕ, suc, ◌+◌, ◌-◌, ◌*◌, ◌≤◌, ◌<◌, ◌≡◌, List, ℤ, pos, length}
+use Rattle.std.specs.Prelude.{ℕ, suc, ◌+◌, ◌-◌, ◌*◌, ◌≤◌, ◌<◌, ◌≡◌, List, pos, length}
 use Rattle.rules.specs.Vocabulary.{pick}
 use Rattle.rules.specs.Answers.{places, runs, blocks}
 use Rattle.rules.specs.Limits.{block_cells_of}
@@ -9,7 +9,7 @@ use Rattle.rules.specs.declared.Counts.{Counts}
 use Rattle.rules.specs.declared.Refusal.{Refusal}
 use Rattle.rules.specs.declared.Refusal.TheVariants.{OutOfRange}
 use Rattle.rules.specs.declared.Verdict.TheVariants.{Accepted, Refused}
-use Rattle.read_count.specs.Tallies.{no_tally, tallied_change}
+use Rattle.read_count.specs.Tallies.{tallied_change}
 use Rattle.read_count.specs.declared.tally.Tally.{Tally}
 use Rattle.read_vp3_fields.specs.Fields.{within}
 use Rattle.read_vp3_fields.specs.declared.Block.{Block}

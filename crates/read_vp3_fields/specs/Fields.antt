@@ -14,7 +14,6 @@ use Rattle.read_vp3_fields.specs.declared.Design.{Design}
 use Rattle.read_vp3_fields.specs.declared.Design.TheVariants as design
 use Rattle.read_vp3_fields.specs.declared.Start.{Start}
 use Rattle.read_vp3_fields.specs.declared.Start.TheVariants as start
-use Rattle.read_vp3_fields.specs.declared.Block.{Block}
 use Rattle.read_vp3_fields.specs.declared.Colored.{Colored}
 use Rattle.read_vp3_fields.specs.declared.Colored.TheVariants as colored
 

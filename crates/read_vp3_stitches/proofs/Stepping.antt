@@ -1,22 +1,17 @@
 -- The events of stitches unfold by one step, whatever the fuel; one law for each kind of step at a place. Assumes nothing.
-use Prim.Native.Nat.{ℕ, suc, ◌+◌, ◌-◌, ◌*◌, ◌%◌, ◌≤◌, ◌<◌}
+use Prim.Native.Nat.{ℕ, ◌+◌, ◌-◌, ◌*◌, ◌≤◌, ◌<◌}
 use mathlib.Core.Path.{◌≡◌, refl, ◌∙◌}
 use mathlib.Core.List.{List, [], ◌∷◌}
 use native.Mathlib.Omega.{arith}
 use borrow.Author.Tests.{eq-eqb, ne_eqb, lt-ltb, le-ltb, ltb-true, ltb-false, eqb-true, eqb-false}
 use lib.Dec.{ltb, eqb}
-use lib.IntN.{ℤ, pos, ◌-ℤ◌}
+use lib.IntN.{ℤ}
 use lib.ListN.{length, get_or, take, drop, length-drop}
 use lib.Seq.{drop-drop}
-use mir.Syntax.{w32}
-use mir.Val.{SFits, to_z, of_z}
-use mir.Facts.{to_z-of_z, to_z_pos}
 use Rattle.rules.specs.Vocabulary.{signed}
-use Rattle.rules.specs.Records.{Event, stitch}
+use Rattle.rules.specs.Records.{stitch}
 use Rattle.rules.specs.Vp3.{from_big, long_then, control_then, pair_then, stitch_events}
-use Rattle.laws.specs.Ints.{fit, mag_is, abs_is}
 use Rattle.laws.specs.Tests.{by-test}
-use Rattle.laws.specs.Twos.{shifted}
 use Rattle.laws.specs.Vp3Reading.{stitches-step}
 use Rattle.read_records.proofs.Parts.{drop-two}
 use Rattle.read_records.proofs.Signs.{signed-size}

@@ -1,6 +1,6 @@
 -- Request 4's rules at their edges: a table of jobs and what their import tells, and one of exports, computed. The answers are worked out by
 -- hand from the request; `compare jobs` asks a plain version of it the same and more.
-use Rattle.std.specs.Prelude.{ℕ, ◌≡◌, refl, List, [], ◌∷◌, ◌++◌, map, ℤ, pos, negsuc, length, replicate}
+use Rattle.std.specs.Prelude.{ℕ, ◌≡◌, refl, List, [], ◌∷◌, ◌++◌, map, ℤ, pos, negsuc, replicate}
 use Rattle.rules.specs.Vocabulary.{any, count, signed, bits_of, little, from_little, joined, fuelled, between}
 use Rattle.rules.specs.Lists.{op_of, commands, ends_once, placed, same_place, is_change, stands, any_from}
 use Rattle.rules.specs.Vp3.{row_of}

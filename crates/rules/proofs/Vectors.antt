@@ -20,7 +20,7 @@ use Rattle.rules.specs.Pes.{halves, matrix_field, thread_code, run_length, run_x
 use Rattle.rules.specs.Pes.{opens_section, color_log, pes_string, shorts, pes_blocks, pes_middle, pes_file, part_at}
 use Rattle.rules.specs.Records.{record_then, events}
 use Rattle.rules.specs.Refusals.{bad_list, outside, place_outside, changes, too_many, moves, moved, least_step, greatest_step, step_in, steps_past, step_too_long, verdict}
-use Rattle.rules.specs.Sewing.{Entry, entry, block_after, sews_cmd, sews, list_sewing, along_run, of_run, of_runs, cells, of_blocks, of_buffers, file_sewing}
+use Rattle.rules.specs.Sewing.{Entry, entry, block_after, sews_cmd, sews, list_sewing, along_run, of_run, of_runs, cells, of_blocks, file_sewing}
 use Rattle.rules.specs.Thumbnails.{at_least_one, lesser, floor_of, within, pixel, painted, marked, drawn, at_front, color_blocks, icons}
 use Rattle.rules.specs.Vocabulary.{between, all, any, count, keep, next, first_where, or_else, last_where, same_bytes, signed, bits_of, little, from_little, joined}
 use Rattle.rules.specs.Vocabulary.{digit_at, right, padded, fuelled}

@@ -1,9 +1,9 @@
 -- VP3: a file is read back as the blocks of its list. Assumes nothing.
-use Rattle.std.specs.Prelude.{◌≡◌, true, false, not, ◌&&◌, ℤ, pos, negsuc, neg_ℤ, nat_abs, ◌+ℤ◌, ◌-ℤ◌, ◌*ℤ◌, drop}
+use Rattle.std.specs.Prelude.{◌≡◌, true, false, not, ℤ, pos, negsuc, neg_ℤ, nat_abs, ◌+ℤ◌, ◌-ℤ◌, ◌*ℤ◌, drop}
 use Rattle.std.proofs.Math.Path.{refl, ap}
 use Rattle.std.proofs.Common.{◌∙◌, arith, le-ltb}
-use mathlib.Core.List.{List, [], ◌∷◌, ◌++◌, append_assoc, map}
-use Prim.Native.Nat.{ℕ, zero, suc, ◌+◌, ◌-◌, ◌*◌, ◌/◌, ◌^◌, ◌≤◌, ◌<◌, min}
+use mathlib.Core.List.{List, [], ◌∷◌, ◌++◌, append_assoc}
+use Prim.Native.Nat.{ℕ, zero, suc, ◌-◌, ◌*◌, ◌/◌, ◌^◌, ◌≤◌, ◌<◌}
 use Rattle.std.proofs.Math.ListN.{length, length-append}
 use Rattle.std.proofs.Math.Seq.{take_at, drop_at}
 use Rattle.std.specs.Int.Signed.{le_z}
@@ -11,22 +11,19 @@ use Rattle.rules.specs.Vocabulary.{between, any, count, signed, bits_of, joined}
 use Rattle.rules.specs.Lists.{op_of, is_change, width, height, min_x, min_y, max_x, max_y}
 use Rattle.rules.specs.Refusals.{outside, place_outside, changes}
 use Rattle.rules.specs.Thumbnails.{at_front, color_blocks}
-use Rattle.rules.specs.Vp3.{big, from_big, toward_zero, field, sized, text8, text16, vp3_opening, producer, hex_text, color_text, end_x, end_y}
-use Rattle.rules.specs.Vp3.{stitch_of, vp3_cmd, last_stitch, stitches_from, hundred, color_part, or_black, color_parts, design_part, file_part, vp3_file}
+use Rattle.rules.specs.Vp3.{big, from_big, toward_zero, field, sized, text8, text16, vp3_opening, producer, color_text, end_x, end_y}
+use Rattle.rules.specs.Vp3.{stitches_from, hundred, color_part, or_black, color_parts, design_part, file_part, vp3_file}
 use Rattle.rules.specs.Vp3.{Blocks, ended, block, fixed, skip, inside, part, text, beyond, starts, shift, stitch_part, shifts, color_of, in_color_part, blocks_from}
 use Rattle.rules.specs.Vp3.{in_design_part, in_file_part, vp3_blocks}
 use Rattle.rules.specs.declared.Cmd.{Cmd}
 use Rattle.rules.specs.declared.Color.{Color}
-use Rattle.rules.specs.declared.Op.{Op}
-use Rattle.rules.specs.declared.Op.TheVariants.{Stitch, Jump, Trim, ColorChange, End}
 use Rattle.rules.specs.declared.Verdict.TheVariants.{Accepted}
-use Rattle.laws.specs.Tests.{by-test, pick-both, or-no-left, or-no-right, and-true}
+use Rattle.laws.specs.Tests.{pick-both, or-no-left, or-no-right, and-true}
 use Rattle.laws.specs.Ints.{ints, abs_is, abs_neg, neg-law, add-law, sub-law, mul-law, true-le}
 use Rattle.laws.specs.Twos.{signed-bits, bits-lt}
 use Rattle.laws.specs.Lengths.{joined-append, length-blocks}
-use Rattle.laws.specs.Vp3Lengths.{length-field, length-hundred, length-sized, length-text8, length-text16, wide, length-wide, length-producer, length-color_text}
-use Rattle.laws.specs.Vp3Lengths.{length-color_part, length-color_parts, length-design_part, length-file_part, commands_in, blocks-commands, stitches-length, most-stitches}
-use Rattle.laws.specs.Listing.{count-le}
+use Rattle.laws.specs.Vp3Lengths.{length-hundred, wide, length-wide, length-producer, length-color_text}
+use Rattle.laws.specs.Vp3Lengths.{length-color_part, length-design_part, length-file_part, commands_in, blocks-commands, stitches-length, most-stitches}
 use Rattle.laws.specs.Places as places
 use Rattle.laws.specs.Vp3Reading.{length-big, from-big-small}
 

@@ -5,13 +5,13 @@ use Rattle.std.proofs.Common.{sym, ◌∙◌, arith, le-ltb}
 use mathlib.Core.List.{List, [], ◌∷◌, ◌++◌}
 use Rattle.rules.specs.Vocabulary.{between, count, signed, bits_of, joined, same_bytes}
 use Rattle.rules.specs.Lists.{op_of, is_change}
-use Rattle.rules.specs.Records.{Event, stitch, jump, change}
+use Rattle.rules.specs.Records.{Event, stitch, jump}
 use Rattle.rules.specs.Refusals.{place_outside, changes, verdict}
 use Rattle.rules.specs.Limits.{longest_file}
 use Rattle.rules.specs.Text.{begins}
 use Rattle.rules.specs.Sewing.{Needle, needle, block_after, needles_cmd, needles_from, list_needles}
 use Rattle.rules.specs.Thumbnails.{at_front, color_blocks}
-use Rattle.rules.specs.Vp3.{big, from_big, end_x, end_y, stitch_of, vp3_cmd, last_stitch, stitches_from, vp3_file, Blocks, block}
+use Rattle.rules.specs.Vp3.{big, from_big, end_x, end_y, stitch_of, vp3_cmd, last_stitch, stitches_from, vp3_file, Blocks}
 use Rattle.rules.specs.Vp3.{vp3_opening, row_of, vp3_layout, vp3_blocks, long_then, control_then, pair_then, stitch_events, reach_x, reach_y, change_to, events_in, strays, fault_in}
 use Rattle.rules.specs.declared.Cmd.{Cmd}
 use Rattle.rules.specs.declared.Color.{Color}

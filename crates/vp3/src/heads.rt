@@ -94,7 +94,7 @@ pub fn put_design(b: Bounds, m: Middle, blocks: usize, out: &mut [u8], at: usize
     let third = put_be32(out, second, 0);
     let fourth = put_be32(out, third, 0);
     let mark = put_be32(out, fourth, 4096);
-    let version = put_text(out, mark, b"xx_p_p");
+    let version = put_text(out, mark, b"xxPP");
     let producer = put2(out, version, 0x01, 0x00);
     let count = put_text16(out, producer, b"Produced by     Software Ltd");
     put_be16(out, count, blocks)

@@ -16,12 +16,12 @@ returns-in-3 c = ⊎_elim (λ e. rw e (refl, omega arith)) (λ e. rw e (refl, om
 
 pub returns-in_default : goal.returns-in_default
 unfolding edge_of
-returns-in_default c =    let row = c.args.row in (
-      rw (
-        ne_eqb row 2 (λ e. c.in_default.in_default-own.rest.0.1 (inl e)),
-        ne_eqb row 35 (λ e. c.in_default.in_default-own.rest.0.1 (inr e)),
-        ne_eqb row 3 (λ e. c.in_default.in_default-own.rest.1 (inl e)),
-        ne_eqb row 34 (λ e. c.in_default.in_default-own.rest.1 (inr e)),
-      ),
-      omega arith,
-    )
+returns-in_default c = let row = c.args.row in (
+  rw (
+    ne_eqb row 2 (λ e. c.in_default.in_default-own.rest.0.1 (inl e)),
+    ne_eqb row 35 (λ e. c.in_default.in_default-own.rest.0.1 (inr e)),
+    ne_eqb row 3 (λ e. c.in_default.in_default-own.rest.1 (inl e)),
+    ne_eqb row 34 (λ e. c.in_default.in_default-own.rest.1 (inr e)),
+  ),
+  omega arith,
+)

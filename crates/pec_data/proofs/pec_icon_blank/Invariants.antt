@@ -1,14 +1,9 @@
 -- `pec_icon_blank` meets its contract: what the loop and the last stores make of a row of zeros is computed. Assumes nothing.
 use Prim.Native.Nat.{ℕ, zero, suc, ◌+◌, ◌-◌, ◌*◌, ◌/◌, ◌≤◌}
-use mathlib.Core.Path.{◌≡◌, ap, ◌∙◌}
+use mathlib.Core.Path.{◌≡◌}
 use mathlib.Core.List.{List}
-use native.Mathlib.Omega.{arith}
-use borrow.Author.Rules.{rules}
 use lib.ListN.{replicate, set}
-use lib.Seq.{sets}
-use Rattle.rules.specs.Vocabulary.{joined}
-use Rattle.rules.specs.Charts.{blank_icon}
-use Rattle.pec_data.specs.Border.{edge_of, border}
+use Rattle.pec_data.specs.Border.{edge_of}
 use Rattle.pec_data.proofs.pec_icon_blank.Given as goal
 
 -- the thumbnail with k rows of its border, from row 2 on

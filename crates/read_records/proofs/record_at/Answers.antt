@@ -1,6 +1,5 @@
 -- Each format by its own function.
 use Rattle.read_records.specs.Firsts.{first_record_of}
-use borrow.Author.Rules.{rules}
 use Rattle.read_records.proofs.record_at.Goals as goal
 
 pub returns-in-Pec : goal.returns-in-Pec

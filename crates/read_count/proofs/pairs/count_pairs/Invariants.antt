@@ -1,11 +1,8 @@
 -- One turn after the other, by `Tallying`; then the rest.
 use Prim.Native.Nat.{◌-◌}
-use native.Mathlib.Omega.{arith}
 use lib.ListN.{length}
 use Rattle.read_records.specs.Firsts.{pair_row}
 use Rattle.read_count.specs.Tallies.{Tallying}
-use mathlib.Core.Path.{sym}
-use Rattle.read_count.proofs.Laws.{tallying-start}
 use Rattle.read_count.proofs.pairs.count_pairs.Given as goal
 
 abbrev pub invariant-loop-at : goal.invariant-loop-at

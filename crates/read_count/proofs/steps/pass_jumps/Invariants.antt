@@ -1,11 +1,7 @@
 -- One jump after the other, by `Jumps`.
-use mathlib.Core.Path.{◌≡◌, sym}
-use Prim.Native.Nat.{◌+◌, ◌-◌, ◌/◌, ◌%◌, ◌≤◌}
-use native.Mathlib.Omega.{arith}
-use lib.ListN.{length}
+use Prim.Native.Nat.{◌-◌, ◌≤◌}
 use Rattle.read_records.specs.declared.Row.TheVariants.{Pec}
-use Rattle.read_passes.proofs.Found.{Word, hops-low}
-use Rattle.read_count.specs.Tallies.{Jumps, none, more}
+use Rattle.read_count.specs.Tallies.{Jumps}
 use Rattle.read_count.proofs.steps.pass_jumps.Given as goal
 
 abbrev pub invariant-loop-at : goal.invariant-loop-at

@@ -1,9 +1,7 @@
 -- One record after the other, by `Tallying`.
 use Prim.Native.Nat.{◌-◌}
-use native.Mathlib.Omega.{arith}
 use lib.ListN.{length}
 use Rattle.read_count.specs.Tallies.{Tallying}
-use Rattle.read_count.proofs.Laws.{tallying-small, change-small, tallying-done}
 use Rattle.read_count.proofs.tally.count_rest.Given as goal
 
 abbrev pub invariant-loop-at : goal.invariant-loop-at

@@ -1,10 +1,8 @@
 -- One turn after the other, by `Tallying`; then the rest.
 use Prim.Native.Nat.{◌-◌}
-use native.Mathlib.Omega.{arith}
 use lib.ListN.{length}
 use Rattle.read_count.specs.Tallies.{Tallying}
 use Rattle.read_records.specs.declared.Row.TheVariants.{Dst}
-use Rattle.read_count.proofs.Laws.{tallying-start}
 use Rattle.read_count.proofs.triples.count_triples.Given as goal
 
 abbrev pub invariant-loop-at : goal.invariant-loop-at

@@ -9,7 +9,6 @@ use mir.Facts.{to_z-of_z}
 use Rattle.rules.specs.Vocabulary.{signed}
 use Rattle.laws.specs.Ints.{abs_neg}
 use Rattle.read_records.proofs.Signs.{signed-size, small-fits}
-use borrow.Author.Rules.{rules}
 use Rattle.read_records.proofs.bytes.minus8.Goals as goal
 
 module _ (b : ℕ) {r : ℤ} (e : r ≡ signed 7 b) where

@@ -1,7 +1,6 @@
 -- A number in two's complement: the sum and the remainder shift it.
 use native.Mathlib.Omega.{arith}
-use Rattle.read_records.proofs.Signs.{shift_fits, shift_is}
-use borrow.Author.Rules.{rules}
+use Rattle.read_records.proofs.Signs.{shift_is}
 use Rattle.read_records.proofs.bytes.signed16.Goals as goal
 
 pub returns : goal.returns

@@ -2,7 +2,6 @@
 use borrow.Author.Tests.{eq-eqb, ne_eqb}
 use mir.Facts.{to_z-of_z}
 use Rattle.rules.specs.Exp.{control}
-use borrow.Author.Rules.{rules}
 use Rattle.read_records.proofs.pair.controlled.Goals as goal
 
 pub returns-then-c-eq128 : goal.returns-then-c-eq128
@@ -16,7 +15,7 @@ returns-then-c-eq1 c =
 
 pub returns-then-c-eq2 : goal.returns-then-c-eq2
 unfolding control
-returns-then-c-eq2 c =    
+returns-then-c-eq2 c =
     simp (
       ne_eqb _ _ c.if-c-eq128.false,
       ne_eqb _ _ c.if-c-eq1.false,
@@ -28,7 +27,7 @@ returns-then-c-eq2 c =
 
 pub returns-then-c-eq4 : goal.returns-then-c-eq4
 unfolding control
-returns-then-c-eq4 c =    
+returns-then-c-eq4 c =
     simp (
       ne_eqb _ _ c.if-c-eq128.false,
       ne_eqb _ _ c.if-c-eq1.false,

@@ -3,12 +3,10 @@ use Prim.Native.Nat.{ℕ}
 use mathlib.Core.Path.{◌≡◌, refl}
 use mathlib.Core.Bool.{Bool, true, false}
 use mathlib.Core.List.{List}
-use mathlib.Core.Logic.{⊎_elim}
 use lib.Dec.{T, eqb, eqb→eq}
 use lib.ListN.{length, get_or, set, replicate}
 use Rattle.laws.specs.Tables.{every, at}
 use Rattle.read_records.specs.Tables.{kind_of, Kinds}
-use borrow.Author.Rules.{rules}
 use Rattle.read_records.proofs.pair.kinds.Goals as goal
 use Rattle.read_records.proofs.pair.kinds.Goals.{then-jef, else-jef}
 

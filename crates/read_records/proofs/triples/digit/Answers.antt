@@ -1,7 +1,6 @@
 -- The cases of the definition, in its order.
 use borrow.Author.Tests.{eq-eqb, ne_eqb}
 use Rattle.read_records.specs.Digits.{pair_digit}
-use borrow.Author.Rules.{rules}
 use Rattle.read_records.proofs.triples.digit.Goals as goal
 
 pub returns-then-p-m : goal.returns-then-p-m

@@ -2,7 +2,6 @@
 use mathlib.Core.Path.{◌∙◌}
 use native.Mathlib.Omega.{arith}
 use Rattle.read_records.proofs.DstTables.{two-fit, all_fit, all_read, x-low}
-use borrow.Author.Rules.{rules}
 use Rattle.read_records.proofs.triples.dst_dx.Goals as goal
 
 pub overflow_add-result-2 : goal.overflow_add-result-2

@@ -1,15 +1,14 @@
 -- The three entries of each four bits passed are right.
-use mathlib.Core.Path.{◌≡◌, ◌∙◌}
-use Prim.Native.Nat.{ℕ, ◌-◌, ◌≤◌, ◌<◌}
+use mathlib.Core.Path.{◌∙◌}
 use native.Mathlib.Omega.{arith}
-use lib.ListN.{length, length-set}
+use lib.ListN.{length-set}
 use mir.Syntax.{w32}
 use Rattle.laws.specs.Ints.{ret}
-use Rattle.read_records.proofs.DstTables.{Entries, entries-more}
+use Rattle.read_records.proofs.DstTables.{entries-more}
 use Rattle.read_records.proofs.triples.dst_steps.Goals as goal
 
 pub loop-n-preserved : goal.loop-n-preserved
-loop-n-preserved c =    let u = c.dst_step in
+loop-n-preserved c = let u = c.dst_step in
     let v = c.dst_step-in-loop-n in
     let w = c.dst_step-in-loop-n-2 in
     let e = c.axis_bits-bits.ensures in

@@ -1,11 +1,8 @@
 -- The three entries of each four bits passed are right.
-use mathlib.Core.Path.{◌≡◌, ◌∙◌}
+use mathlib.Core.Path.{◌≡◌}
 use Prim.Native.Nat.{ℕ, ◌-◌, ◌≤◌, ◌<◌}
-use native.Mathlib.Omega.{arith}
-use lib.ListN.{length, length-set}
-use mir.Syntax.{w32}
-use Rattle.laws.specs.Ints.{ret}
-use Rattle.read_records.proofs.DstTables.{Entries, entries-more}
+use lib.ListN.{length}
+use Rattle.read_records.proofs.DstTables.{Entries}
 use Rattle.read_records.proofs.triples.dst_steps.Given as goal
 
 abbrev pub invariant-loop-n : goal.invariant-loop-n

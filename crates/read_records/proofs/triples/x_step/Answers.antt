@@ -2,7 +2,6 @@
 use mathlib.Core.Path.{◌∙◌}
 use native.Mathlib.Omega.{arith}
 use Rattle.read_records.proofs.Digits.{held-digit, held-times, two, three, four, five, x-cases}
-use borrow.Author.Rules.{rules}
 use Rattle.read_records.proofs.triples.x_step.Goals as goal
 
 pub overflow_mul-result : goal.overflow_mul-result
@@ -28,11 +27,11 @@ overflow_add-result-3 c =
     (four (held-digit _ _ c.digit.ensures) (held-digit _ _ c.digit-2.ensures) (held-digit _ _ c.digit-3.ensures) (held-digit _ _ c.digit-4.ensures)).fits
 
 pub overflow_add-result-4 : goal.overflow_add-result-4
-overflow_add-result-4 c =    
+overflow_add-result-4 c =
     (five (held-digit _ _ c.digit.ensures) (held-digit _ _ c.digit-2.ensures) (held-digit _ _ c.digit-3.ensures) (held-digit _ _ c.digit-4.ensures)
     (held-digit _ _ c.digit-5.ensures)).fits
 
 pub returns : goal.returns
-returns c =    
+returns c =
     (five (held-digit _ _ c.digit.ensures) (held-digit _ _ c.digit-2.ensures) (held-digit _ _ c.digit-3.ensures) (held-digit _ _ c.digit-4.ensures)
     (held-digit _ _ c.digit-5.ensures)).is ∙ x-cases _ _ _

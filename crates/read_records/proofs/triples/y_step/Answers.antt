@@ -2,7 +2,6 @@
 use mathlib.Core.Path.{◌∙◌}
 use native.Mathlib.Omega.{arith}
 use Rattle.read_records.proofs.Digits.{held-digit, held-times, held-neg, two, three, four, five, y-cases}
-use borrow.Author.Rules.{rules}
 use Rattle.read_records.proofs.triples.y_step.Goals as goal
 
 pub overflow_mul-up : goal.overflow_mul-up
@@ -28,16 +27,16 @@ overflow_add-up-3 c =
     (four (held-digit _ _ c.digit.ensures) (held-digit _ _ c.digit-2.ensures) (held-digit _ _ c.digit-3.ensures) (held-digit _ _ c.digit-4.ensures)).fits
 
 pub overflow_add-up-4 : goal.overflow_add-up-4
-overflow_add-up-4 c =    
+overflow_add-up-4 c =
     (five (held-digit _ _ c.digit.ensures) (held-digit _ _ c.digit-2.ensures) (held-digit _ _ c.digit-3.ensures)
     (held-digit _ _ c.digit-4.ensures) (held-digit _ _ c.digit-5.ensures)).fits
 
 pub overflow_sub-result : goal.overflow_sub-result
-overflow_sub-result c =    
+overflow_sub-result c =
     (held-neg (omega arith) (five (held-digit _ _ c.digit.ensures) (held-digit _ _ c.digit-2.ensures)
     (held-digit _ _ c.digit-3.ensures) (held-digit _ _ c.digit-4.ensures) (held-digit _ _ c.digit-5.ensures))).fits
 
 pub returns : goal.returns
-returns c =    
+returns c =
     (held-neg (omega arith) (five (held-digit _ _ c.digit.ensures) (held-digit _ _ c.digit-2.ensures)
     (held-digit _ _ c.digit-3.ensures) (held-digit _ _ c.digit-4.ensures) (held-digit _ _ c.digit-5.ensures))).is ∙ y-cases _ _ _

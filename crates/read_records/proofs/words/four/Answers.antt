@@ -1,7 +1,4 @@
 -- Four bytes are below 2 ^ 32.
-use native.Mathlib.Omega.{arith}
-use Prim.Native.Nat.{◌+◌, ◌<◌}
-use lib.ListN.{get_or}
 use Rattle.read_records.specs.Words.{four_at}
 use borrow.Author.Rules.{rules}
 use Rattle.read_records.proofs.words.four.Goals as goal

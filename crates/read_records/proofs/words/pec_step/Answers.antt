@@ -2,8 +2,7 @@
 use native.Mathlib.Omega.{arith}
 use mir.Syntax.{w32}
 use Rattle.laws.specs.Ints.{ret}
-use Rattle.read_records.proofs.PecTables.{second_fits, sum_fits, sum-read}
-use borrow.Author.Rules.{rules}
+use Rattle.read_records.proofs.PecTables.{sum_fits, sum-read}
 use Rattle.read_records.proofs.words.pec_step.Goals as goal
 
 pub overflow_add-result : goal.overflow_add-result

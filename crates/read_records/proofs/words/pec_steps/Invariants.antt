@@ -1,11 +1,8 @@
 -- Both entries of each byte passed are right.
-use mathlib.Core.Path.{◌≡◌, ◌∙◌}
+use mathlib.Core.Path.{◌≡◌}
 use Prim.Native.Nat.{ℕ, ◌-◌, ◌≤◌, ◌<◌}
-use native.Mathlib.Omega.{arith}
-use lib.ListN.{length, length-set}
-use mir.Syntax.{w32}
-use Rattle.laws.specs.Ints.{ret}
-use Rattle.read_records.proofs.PecTables.{Entries, entries-more}
+use lib.ListN.{length}
+use Rattle.read_records.proofs.PecTables.{Entries}
 use Rattle.read_records.proofs.words.pec_steps.Given as goal
 
 abbrev pub invariant-loop-n : goal.invariant-loop-n

@@ -1,0 +1,19 @@
+-- `from_zero` by what the digits make. Assumes nothing.
+use lib.IntN.{pos}
+use mir.Facts.{to_z_pos}
+use mir.Syntax.{w32}
+use Rattle.laws.specs.Ints.{ints}
+use Rattle.command_line.specs.Numbers.{from_zero}
+use Rattle.command_line.proofs.Digits.{made-small, made-number, made_none}
+use Rattle.command_line.proofs.numbers.from_zero.Goals as goal
+
+pub overflow_cast-result : goal.overflow_cast-result
+overflow_cast-result c = let l = made-small _ _ c.digits_up_to-made.ensures c.in-Make.is in omega ints
+
+pub returns-in-Make : goal.returns-in-Make
+unfolding from_zero
+returns-in-Make c = rw (to_z_pos w32 (overflow_cast-result c).sfits) (made-number _ _ c.digits_up_to-made.ensures pos c.in-Make.is)
+
+pub returns-in-Wrong : goal.returns-in-Wrong
+unfolding from_zero
+returns-in-Wrong c = made_none _ _ c.digits_up_to-made.ensures pos c.in-Wrong.is

@@ -1,0 +1,35 @@
+-- One turn after the other, by `Going`; then the rest.
+use Prim.Native.Nat.{◌-◌}
+use mathlib.Core.Path.{◌≡◌, sym, ◌∙◌}
+use native.Mathlib.Omega.{arith}
+use lib.ListN.{length}
+use Rattle.read_records.specs.declared.Row.TheVariants.{Dst}
+use Rattle.hoop_records.specs.Rows.{Looks}
+use Rattle.hoop_records.specs.declared.looks.Seen.{Seen}
+use Rattle.hoop_records.proofs.Events.{going_start, going_on, going-out, going-rest}
+use Rattle.hoop_records.proofs.Turns.{Rows, front-looking, front-all}
+use borrow.Author.Rules.{rules}
+use Rattle.hoop_records.proofs.triples.fits_triples.Goals as goal
+
+pub last_turn-end-requires : goal.last_turn-end-requires
+last_turn-end-requires c = omega arith
+
+pub loop-w-init : goal.loop-w-init
+loop-w-init c =
+    going_start (front-looking Dst c.args.h _ c.look_from-w.ensures c.requires)
+
+pub slice_bounds-look_triple-end : goal.slice_bounds-look_triple-end
+slice_bounds-look_triple-end c = sym c.dst_steps-xs.ensures.size
+
+pub slice_bounds-look_triple-end-in-loop-w : goal.slice_bounds-look_triple-end-in-loop-w
+slice_bounds-look_triple-end-in-loop-w c = sym c.dst_steps-ys.ensures.size
+
+pub look_triple-requires : goal.look_triple-requires
+look_triple-requires c = record { dst_steps = (c.dst_steps-xs.ensures, c.dst_steps-ys.ensures); at_in_bounds = c.last_turn-end.ensures c.loop-w.w.at c.loop-w-test.true; looking = c.loop-w.invariant.looking }
+
+pub fits_rest-requires : goal.fits_rest-requires
+fits_rest-requires c = c.loop-w.invariant.looking
+
+pub returns : goal.returns
+returns c =
+    going-rest c.loop-w.invariant c.fits_rest.ensures ∙ front-all _ _ _ c.look_from-w.ensures

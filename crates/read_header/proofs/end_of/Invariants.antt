@@ -1,0 +1,12 @@
+-- The text without its last blanks is that of the bytes before e. Assumes nothing.
+use Prim.Native.Nat.{◌≤◌}
+use mathlib.Core.Path.{◌≡◌}
+use lib.ListN.{length, take}
+use Rattle.rules.specs.Text.{trim_end}
+use Rattle.read_header.proofs.end_of.Given as goal
+
+abbrev pub invariant-loop-e : goal.invariant-loop-e
+invariant-loop-e l = (l.e ≤ length l.s) × (trim_end l.s ≡ trim_end (take l.e l.s))
+
+abbrev pub decreases-loop-e : goal.decreases-loop-e
+decreases-loop-e l = l.e

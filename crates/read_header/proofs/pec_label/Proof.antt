@@ -1,8 +1,0 @@
--- The bytes at the label's place. Assumes nothing.
-use mathlib.Core.Path.{◌∙◌}
-use borrow.Author.Rules.{rules}
-use Rattle.read_header.proofs.pec_label.Statement.{statement}
-use Rattle.read_header.proofs.pec_label.Tie as tie
-
-pub pec-label-spec : {M : Type 1} → statement M
-pec-label-spec = tie.close (tie.spec (λ c κs. search rules) (λ c κs. search rules) (λ c. c.part.ensures ∙ c.before.pec-label-at.ensures.text))

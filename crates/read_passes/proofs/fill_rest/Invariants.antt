@@ -1,0 +1,13 @@
+-- One record after the other, by `Went`.
+use Prim.Native.Nat.{◌-◌}
+use lib.ListN.{length}
+use Rattle.read_builder.specs.Colour.{colour_in}
+use Rattle.read_passes.proofs.Loops.{Going}
+use Rattle.read_passes.proofs.fill_rest.Given as goal
+
+abbrev pub invariant-loop-at : goal.invariant-loop-at
+invariant-loop-at l =
+    Going l.f l.bytes (colour_in l.colors) l.initial.b l.from l.initial.places l.initial.runs l.initial.blocks l.b l.at l.places l.runs l.blocks
+
+abbrev pub decreases-loop-at : goal.decreases-loop-at
+decreases-loop-at l = length l.bytes - l.at

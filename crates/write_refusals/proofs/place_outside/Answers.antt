@@ -1,0 +1,42 @@
+-- What is gathered tells the commands before i, and what is left the others.
+use mathlib.Core.Path.{refl}
+use native.Mathlib.Omega.{arith}
+use Rattle.rules.specs.Vocabulary.{any}
+use Rattle.rules.specs.Refusals.{outside, place_outside}
+use Rattle.write_refusals.proofs.Walk.{held, one_more, one_end}
+use Rattle.write_refusals.proofs.place_outside.Goals as goal
+
+pub loop-i-init : goal.loop-i-init
+unfolding any place_outside
+loop-i-init c = (held c.list_len-n.ensures, record { told = refl })
+
+pub offset_bounds-xs-i : goal.offset_bounds-xs-i
+offset_bounds-xs-i c = omega arith
+
+pub bounds-xs-i : goal.bounds-xs-i
+bounds-xs-i c = omega arith
+
+pub offset_bounds-ys-i : goal.offset_bounds-ys-i
+offset_bounds-ys-i c = omega arith
+
+pub bounds-ys-i : goal.bounds-ys-i
+bounds-ys-i c = omega arith
+
+pub overflow_add-i : goal.overflow_add-i
+overflow_add-i c = omega arith
+
+pub loop-i-smaller : goal.loop-i-smaller
+loop-i-smaller c = omega arith
+
+pub loop-i-preserved : goal.loop-i-preserved
+unfolding any outside
+loop-i-preserved c =
+    let inv = c.loop-i.invariant in (
+      inv.0,
+      one_more inv.0 inv.1 _ c.loop-i-test.true c.is_placed-arg-1.given
+          c.is_placed-arg-in-loop-i-1.given (λ rest. rw c.is_placed.ensures),
+    )
+
+pub returns : goal.returns
+unfolding any place_outside
+returns c = one_end c.loop-i.invariant.0 c.loop-i.invariant.1 c.loop-i-test.false refl
