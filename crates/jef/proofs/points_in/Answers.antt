@@ -9,8 +9,7 @@ use Rattle.rules.specs.declared.Op.{Op}
 use Rattle.rules.specs.declared.Op.TheVariants.{Stitch, Jump, Trim, ColorChange, End}
 use Rattle.rules.specs.Jef.{points_in}
 use borrow.Author.Rules.{rules}
-use Rattle.jef.proofs.points_in.Statement.{statement}
-use Rattle.jef.proofs.points_in.Tie as tie
+use Rattle.jef.proofs.points_in.Goals as goal
 
 -- a jump or a colour change
 twos : (o : Op) → OneOf (1 ∷ 3 ∷ []) (tag_of the_type o) → 2 ≡ points_in o
@@ -30,10 +29,14 @@ nones Trim k = refl
 nones ColorChange k = absurd (miss (2 ∷ 4 ∷ []) 3 tt k)
 nones End k = refl
 
-pub points-in-spec : {M : Type 1} → statement M
+pub returns-in-Stitch : goal.returns-in-Stitch
 unfolding points_in
-points-in-spec =
-    tie.close
-    (tie.spec
-    (λ c. search rules) (λ c. search rules) (λ c. (twos c.before.args.op c.match.keys2, omega arith))
-    (λ c. (nones c.before.args.op c.match.keys3, omega arith)))
+returns-in-Stitch c = search rules
+
+pub returns-in-Jump : goal.returns-in-Jump
+unfolding points_in
+returns-in-Jump c = (twos c.args.op c.in-Jump.in-Jump-own.keys2, omega arith)
+
+pub returns-in-Trim : goal.returns-in-Trim
+unfolding points_in
+returns-in-Trim c = (nones c.args.op c.in-Trim.in-Trim-own.keys3, omega arith)
