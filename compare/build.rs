@@ -59,7 +59,7 @@ fn link(home: &Path) {
     println!("cargo::rustc-check-cfg=cfg(stitch_box)");
     println!("cargo::rerun-if-env-changed=STITCH_BOX_LIB");
     let named = env::var_os("STITCH_BOX_LIB").map(PathBuf::from);
-    let folders = named.into_iter().chain([home.join("../target/staticlib")]);
+    let folders = named.into_iter().chain([home.join("../crates/stitch_box_c/out")]);
     for folder in folders {
         let archive = folder.join(ARCHIVE);
         if archive.is_file() {

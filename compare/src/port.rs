@@ -451,7 +451,7 @@ pub fn export_job(_: &Lists, _: &mut [u8], _: &mut u64) -> u32 {
 }
 
 const MISSING: &str = "the port's archive libstitch_box_c.a is missing: make it by \
-    `rt staticlib stitch_box_c` in the folder above, or set STITCH_BOX_LIB to the folder that \
+    `cd crates/stitch_box_c && rt lib` in the folder above, or set STITCH_BOX_LIB to the folder that \
     holds it; then touch build.rs and build again";
 
 /// Tells what is missing unless the archive is linked.

@@ -106,6 +106,7 @@ fn put_end(out: &mut [u8], at: usize) -> usize
     put2(out, end, 0x0D, 0x1A)
 }
 
+#[tactic(auto, unfolding(rules::specs::Lists::is_trim))]
 fn is_trim(kind: u8) -> bool
     ensures { result ≡ is_trim (op_of kind) }
 {

@@ -22,7 +22,7 @@ use Rattle.jef_threads.proofs.Nearest.{Near}
 
 -- an element of an array is of its type
 module _ (R : RattleType) (d : R.Denot) where
-  each_at : (xs : List R.Denot) (us : List Val) (i : ℕ) → i < length xs → shadow (each R.Denot R.own xs us) → (u : Val) × Is R (get_or xs i d) (u ∷ [])
+  each_at : (xs : List R.Denot) (us : List Val) (i : ℕ) → i < length xs → shadow (each R.Denot R.own_val xs us) → (u : Val) × Is R (get_or xs i d) (u ∷ [])
   each_at [] us i l s = absurd (not-suc-le-zero l)
   each_at (x ∷ xs) [] i l s = absurd s
   each_at (x ∷ xs) (u ∷ us) zero l s = (u, s.0)

@@ -4,10 +4,12 @@
 pub mod bytes;
 pub mod packbits;
 
-ghost use Rattle.std.specs.Prelude.{◌<◌, ◌≤◌, length};
+ghost use Rattle.std.specs.Prelude.{◌<◌, ◌≤◌, length, IfOk};
+ghost use Rattle.std.specs.Io.{ReadsAtMost};
 
 use bytes::word;
-use libc::STDOUT_FILENO;
+use std::io;
+use std::io::Read;
 
 // A case of a list: whether there is one, how many bytes of it there are, and whether these are all.
 #[derive(Clone, Copy)]
@@ -24,34 +26,49 @@ pub enum Outcome {
     Skipped,
 }
 
-// The next len bytes of the list, or as many as there are.
-fn fetch(fd: i32, case: &mut [u8], len: usize) -> usize
-    requires { len ≤ length case.old }
-    ensures { result ≤ len }
+// Reads to the front of a buffer, until it is full or the input ends.
+pub fn read_full<R: Read>(input: &mut R, buf: &mut [u8]) -> io::Result<usize>
+    ensures { ReadsAtMost result buf.new }
 {
-    io::read_full(fd, &mut case[..len])
+    let mut done = 0;
+    while done < buf.len() {
+        let n = input.read(&mut buf[done..])?;
+        if n == 0 {
+            break;
+        }
+        done += n;
+    }
+    Ok(done)
+}
+
+// The next len bytes of the list, or as many as there are.
+fn fetch<R: Read>(input: &mut R, case: &mut [u8], len: usize) -> io::Result<usize>
+    requires { len ≤ length case.old }
+    ensures { IfOk result (λ n. n ≤ len) }
+{
+    read_full(input, &mut case[..len])
 }
 
 // The next case of the list; two bytes before it tell its length.
-pub fn next(fd: i32, case: &mut [u8]) -> Case
+pub fn next<R: Read>(input: &mut R, case: &mut [u8]) -> io::Result<Case>
     requires { 65536 ≤ length case.old }
-    ensures { result.len < 65536 }
+    ensures { IfOk result (λ c. c.len < 65536) }
 {
     let mut head = [0u8; 2];
-    if io::read_full(fd, &mut head) == 0 {
-        return Case {
+    if read_full(input, &mut head)? == 0 {
+        return Ok(Case {
             there: false,
             len: 0,
             whole: false,
-        };
+        });
     }
     let len = word(&head, 0);
-    let n = fetch(fd, case, len);
-    Case {
+    let n = fetch(input, case, len)?;
+    Ok(Case {
         there: true,
         len: n,
         whole: n == len,
-    }
+    })
 }
 
 pub fn verdict(right: bool) -> Outcome {
@@ -78,35 +95,29 @@ pub fn count(tally: &mut [u64; 21], group: usize, outcome: Outcome)
     requires { group < 7 }
 {
     let i = cell(group, outcome);
-    tally[i] = std::num::wrapping_add_u64(tally[i], 1);
+    tally[i] = tally[i].wrapping_add(1);
 }
 
-fn show_skipped(n: u64) {
+fn show_skipped(out: &impl Print, n: u64) -> io::Result<()> {
     if n == 0 {
-        return;
+        return Ok(());
     }
-    io::write_all(STDOUT_FILENO, b", skipped ");
-    io::print_decimal(STDOUT_FILENO, n);
+    print!(out; ", skipped {n}")
 }
 
-pub fn show(name: &[u8], right: u64, wrong: u64, skipped: u64) {
-    io::write_all(STDOUT_FILENO, name);
-    io::write_all(STDOUT_FILENO, b": ");
-    io::print_decimal(STDOUT_FILENO, right);
-    io::write_all(STDOUT_FILENO, b" right, ");
-    io::print_decimal(STDOUT_FILENO, wrong);
-    io::write_all(STDOUT_FILENO, b" wrong");
-    show_skipped(skipped);
-    io::write_all(STDOUT_FILENO, b"\n");
+pub fn show(out: &impl Print, name: &str, right: u64, wrong: u64, skipped: u64) -> io::Result<()> {
+    print!(out; "{name}: {right} right, {wrong} wrong")?;
+    show_skipped(out, skipped)?;
+    println!(out;)
 }
 
 // A line for each group: the formats, and cases of none of them.
-pub fn show_all(tally: &[u64; 21]) {
-    show(b"pes", tally[0], tally[1], tally[2]);
-    show(b"pec", tally[3], tally[4], tally[5]);
-    show(b"dst", tally[6], tally[7], tally[8]);
-    show(b"exp", tally[9], tally[10], tally[11]);
-    show(b"jef", tally[12], tally[13], tally[14]);
-    show(b"vp3", tally[15], tally[16], tally[17]);
-    show(b"other", tally[18], tally[19], tally[20]);
+pub fn show_all(out: &impl Print, tally: &[u64; 21]) -> io::Result<()> {
+    show(out, "pes", tally[0], tally[1], tally[2])?;
+    show(out, "pec", tally[3], tally[4], tally[5])?;
+    show(out, "dst", tally[6], tally[7], tally[8])?;
+    show(out, "exp", tally[9], tally[10], tally[11])?;
+    show(out, "jef", tally[12], tally[13], tally[14])?;
+    show(out, "vp3", tally[15], tally[16], tally[17])?;
+    show(out, "other", tally[18], tally[19], tally[20])
 }

@@ -1,6 +1,5 @@
 // Compares a file with one that is packed by PackBits.
 use super::bytes::byte;
-use check::same;
 
 // How many bytes of the file a control stands for.
 fn opened(control: u8) -> usize {
@@ -33,7 +32,7 @@ fn all_are(s: &[u8], b: u8) -> bool {
 // Whether a control with the bytes that follow it stands for these of the file.
 fn run_same(control: u8, follow: &[u8], file: &[u8]) -> bool {
     if control < 128 {
-        return same(follow, file);
+        return follow == file;
     }
     if control == 128 {
         return false;

@@ -1,5 +1,5 @@
 -- The cells of columns and rows, the table of an axis, and a bit set by two cells.
-use Rattle.std.specs.Prelude.{◌≡◌, ℕ, ◌+◌, ◌*◌, ◌/◌, ◌%◌, ◌^◌, ◌<◌, ◌≤◌, Bool, true, false, List, length, set, ℤ, pos, ◌+ℤ◌, ◌≤ℤ◌, ◌<ℤ◌, bit_or, nat_lt, slice_index, slice_index_or, slice_set, Float}
+use Rattle.std.specs.Prelude.{◌≡◌, ℕ, ◌+◌, ◌*◌, ◌/◌, ◌%◌, ◌^◌, ◌<◌, ◌≤◌, Bool, true, false, List, length, ℤ, pos, ◌+ℤ◌, ◌≤ℤ◌, ◌<ℤ◌, bit_or, nat_lt, slice_index, slice_index_or, slice_set, Float}
 use Rattle.rules.specs.Vocabulary.{pick}
 use Rattle.rules.specs.Thumbnails.{pixel_at}
 use Rattle.rules.specs.declared.Cmd.{Cmd}
