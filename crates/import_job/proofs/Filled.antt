@@ -1,7 +1,7 @@
 -- The second pass over a job without fault: one field, from field to field, and the end. Assumes nothing.
 use Prim.Native.Nat.{ℕ, ◌+◌, ◌≤◌, ◌<◌}
 use mathlib.Core.Path.{◌≡◌, refl, sym, ap, ◌∙◌}
-use mathlib.Core.Bool.{true, false}
+use mathlib.Core.Bool.{false}
 use mathlib.Core.List.{List, [], ◌++◌, map, map-append}
 use native.Mathlib.Omega.{arith}
 use borrow.Author.Tests.{eq-eqb, ne_eqb}
@@ -22,7 +22,7 @@ use Rattle.laws.specs.Listing.{list-end}
 use Rattle.laws.specs.Tests.{by-test, pick-both}
 use Rattle.laws.specs.Verdicts.{never_both}
 use Rattle.read_job_fields.specs.Fields.{content_of, Lies}
-use Rattle.import_job.specs.Fills.{Room, RowRoom, RowsPut, fields_at, Ready, Fills, Fits, Filled}
+use Rattle.import_job.specs.Fills.{RowRoom, RowsPut, fields_at, Ready, Fills, Fits, Filled}
 use Rattle.import_job.specs.declared.fill.Filler.{Filler}
 
 -- ---- one field

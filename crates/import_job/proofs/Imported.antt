@@ -1,18 +1,18 @@
 -- What the import of a job and the call for its name answer, by the first pass. Assumes nothing.
-use Prim.Native.Nat.{ℕ, ◌+◌, ◌-◌, ◌≤◌, ◌<◌}
+use Prim.Native.Nat.{ℕ, ◌-◌, ◌≤◌, ◌<◌}
 use mathlib.Core.Path.{◌≡◌, refl, sym, ap, ◌∙◌}
-use mathlib.Core.Bool.{Bool, true, false, ◌||◌, not}
+use mathlib.Core.Bool.{Bool, true, false, not}
 use mathlib.Core.List.{List, [], ◌∷◌, ◌++◌}
 use native.Mathlib.Omega.{arith}
 use borrow.Author.Tests.{ltb-true, ltb-false}
 use lib.Dec.{ltb}
 use lib.IntN.{ℤ}
 use lib.ListN.{length, take, drop, length-map}
-use Rattle.rules.specs.Vocabulary.{pick, any}
+use Rattle.rules.specs.Vocabulary.{any}
 use Rattle.rules.specs.Vp3.{row_of}
-use Rattle.rules.specs.Refusals.{verdict, command_refusals}
+use Rattle.rules.specs.Refusals.{verdict}
 use Rattle.rules.specs.Files.{filled, label_under}
-use Rattle.rules.specs.Jobs.{Fields, ended, field, bad_tag, unknown_kind, rows_in, field_then, fields_from, job_fields, fault_of, name_of}
+use Rattle.rules.specs.Jobs.{ended, field, bad_tag, unknown_kind, rows_in, field_then, fields_from, job_fields, fault_of, name_of}
 use Rattle.rules.specs.Jobs.{job_name, job_threads, job_commands, job_xs, job_ys, job_kinds, job_refusals, job_no_room, job_verdict, import_verdict}
 use Rattle.rules.specs.Jobs.{job_counts, import_answer, job_name_told}
 use Rattle.rules.specs.Promises.{ImportedOf, imports}

@@ -1,22 +1,20 @@
 -- The first pass over a job: one field, from field to field, and the end. Assumes nothing.
-use Prim.Native.Nat.{ℕ, ◌+◌, ◌-◌, ◌*◌, ◌≤◌, ◌<◌}
+use Prim.Native.Nat.{ℕ, ◌+◌, ◌-◌, ◌≤◌, ◌<◌}
 use mathlib.Core.Path.{◌≡◌, refl, sym, ap, ◌∙◌}
 use mathlib.Core.Bool.{Bool, true, false}
-use mathlib.Core.List.{List, [], ◌++◌}
+use mathlib.Core.List.{List, []}
 use native.Mathlib.Nat.{zero-add}
 use native.Mathlib.Omega.{arith}
 use borrow.Author.Tests.{le-ltb, lt-ltb}
-use lib.Dec.{ltb, eqb}
+use lib.Dec.{eqb}
 use lib.ListN.{length, drop, length-append, length-take, length-drop}
 use Rattle.rules.specs.Vocabulary.{pick, any}
 use Rattle.rules.specs.Vp3.{row_of}
 use Rattle.rules.specs.Refusals.{verdict, command_verdict}
 use Rattle.rules.specs.Jobs.{Fields, ended, field, bad_tag, unknown_kind, rows_in, field_then, fields_from, job_fields, fault_of, threads_in, commands_in}
 use Rattle.rules.specs.Jobs.{job_xs, job_ys, job_kinds, job_threads, job_commands, job_refusals, job_verdict, job_counts}
-use Rattle.rules.specs.declared.JobCounts.{JobCounts}
 use Rattle.rules.specs.declared.Refusal.{Refusal}
 use Rattle.rules.specs.declared.Refusal.TheVariants.{FileTooLong, BadTag}
-use Rattle.rules.specs.declared.Verdict.{Verdict}
 use Rattle.rules.specs.declared.Verdict.TheVariants.{Accepted, Refused}
 use Rattle.laws.specs.Jobs.{fields-step, rows_long}
 use Rattle.laws.specs.Listing.{list-end}
@@ -25,7 +23,7 @@ use Rattle.read_job_fields.specs.Fields.{content_of, Lies}
 use Rattle.read_job_tally.specs.Tallies.{no_tally, tallied, tally_verdict, Spare}
 use Rattle.read_job_tally.specs.Laws.{tallied-append, tallied-commands, tallied-fewer, tallied-unknown, tally-verdict}
 use Rattle.read_job_tally.specs.declared.Tally.{Tally}
-use Rattle.import_job.specs.Walks.{content_walk, fields_at, Stands, Passes, Walks, checked_by, end_check, Checks}
+use Rattle.import_job.specs.Walks.{content_walk, fields_at, Stands, Passes, Walks, end_check, Checks}
 use Rattle.import_job.specs.declared.Checked.TheVariants as checked
 use Rattle.import_job.specs.declared.Walk.TheVariants as walk
 use Rattle.import_job.specs.declared.Walker.{Walker}

@@ -104,6 +104,10 @@ turned m a e d h = mul_right_comm m d 2 ∙ ap (λ (k : ℕ). k * d) h ∙ mul_r
 
 plus-is : (x y : Float) (a b : ℕ) → HasValue x false a 2 → HasValue y false b 2 → add binary64 x y ≡ round binary64 false (a + b) 2
 unfolding add
+plus-is nan y a b h l = elim h [ ]
+plus-is (inf _) y a b h l = elim h [ ]
+plus-is (fin s m e) nan a b h l = elim l [ ]
+plus-is (fin s m e) (inf _) a b h l = elim l [ ]
 plus-is (fin s m e) (fin t n d) a b h l =
     rw (h.0, l.0)
     (sum_is (m * up e * down d) (n * up d * down e) (down e * down d) a b (grown (m * up e) a (down e) (down d) h.1) (turned (n * up d) b (down d) (down e) l.1)
@@ -111,6 +115,10 @@ plus-is (fin s m e) (fin t n d) a b h l =
 
 minus_is : (x y : Float) (a b k : ℕ) → HasValue x false a 2 → HasValue y false b 2 → a ≡ k + b → sub binary64 x y ≡ round binary64 false k 2
 unfolding sub add neg
+minus_is nan y a b k h l g = elim h [ ]
+minus_is (inf _) y a b k h l g = elim h [ ]
+minus_is (fin s m e) nan a b k h l g = elim l [ ]
+minus_is (fin s m e) (inf _) a b k h l g = elim l [ ]
 minus_is (fin s m e) (fin t n d) a b k h l g =
     rw (h.0, l.0)
     (more-is (m * up e * down d) (n * up d * down e) (down e * down d) a b (grown (m * up e) a (down e) (down d) h.1) (turned (n * up d) b (down d) (down e) l.1)
@@ -118,6 +126,10 @@ minus_is (fin s m e) (fin t n d) a b k h l g =
 
 short-is : (x y : Float) (a b k : ℕ) → HasValue x false a 2 → HasValue y false b 2 → b ≡ suc k + a → sub binary64 x y ≡ round binary64 true (suc k) 2
 unfolding sub add neg
+short-is nan y a b k h l g = elim h [ ]
+short-is (inf _) y a b k h l g = elim h [ ]
+short-is (fin s m e) nan a b k h l g = elim l [ ]
+short-is (fin s m e) (inf _) a b k h l g = elim l [ ]
 short-is (fin s m e) (fin t n d) a b k h l g =
     rw (h.0, l.0)
     (less-is (m * up e * down d) (n * up d * down e) (down e * down d) a b (grown (m * up e) a (down e) (down d) h.1) (turned (n * up d) b (down d) (down e) l.1)
@@ -132,6 +144,8 @@ narrow-is : (x : Float) (s : Bool) (n : ℕ) → n < 2 ^ 53 → x ≡ round bina
 narrow-is x s n h e = go x (by_value s n h e)
   where
     go : (y : Float) → HasValue y s n 2 → narrowed y ≡ round binary32 s n 2
+    go nan v = elim v [ ]
+    go (inf _) v = elim v [ ]
     go (fin t m e) v = rw v.0 (round_same binary32 s (m * up e) (down e) n 2 (down_pos e) (lit< tt) v.1)
 
 -- ---- the fields

@@ -48,6 +48,7 @@ fn put_matrix(w: u32, h: u32, out: &mut [u8], at: usize) -> usize
 }
 
 // "CEmbOne" and eight zeros.
+#[tactic(auto, unfolding(rules::specs::Vocabulary::little, rules::specs::Vocabulary::joined, rules::specs::Pes::pes_string, rules::specs::Pes::shorts))]
 fn put_emb(out: &mut [u8], at: usize) -> usize
     requires { at + 25 ≤ length out.old }
     ensures { Puts out at result emb_text }
@@ -71,6 +72,7 @@ fn put_sizes(w: usize, h: usize, out: &mut [u8], at: usize) -> usize
 }
 
 // How many sections, 0xFFFF, 0, "CSewSeg".
+#[tactic(auto, unfolding(rules::specs::Vocabulary::little, rules::specs::Vocabulary::joined, rules::specs::Pes::pes_string, rules::specs::Pes::shorts))]
 fn put_seg(n: usize, out: &mut [u8], at: usize) -> usize
     requires { at + 15 ≤ length out.old }
     ensures { Puts out at result (seg_text n) }

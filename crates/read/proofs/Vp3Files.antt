@@ -15,7 +15,6 @@ use Rattle.rules.specs.Vp3.{vp3_opening, row_of, fault_in, events_in, vp3_blocks
 use Rattle.rules.specs.declared.Counts.{Counts}
 use Rattle.rules.specs.declared.Format.TheVariants.{Vp3}
 use Rattle.rules.specs.declared.ReadAnswer.TheVariants.{Read}
-use Rattle.rules.specs.declared.Refusal.{Refusal}
 use Rattle.rules.specs.declared.Verdict.{Verdict}
 use Rattle.rules.specs.declared.Verdict.TheVariants.{Accepted, Refused}
 use Rattle.laws.specs.Buffers.{put-by, put_front}
@@ -27,7 +26,7 @@ use Rattle.read_vp3.proofs.Tallied.{counts-are, told-answers}
 use Rattle.read_vp3.specs.Fills as fills
 use Rattle.read_vp3.specs.Walks.{Told}
 use Rattle.read.specs.Answered.{Opened, room_for, HeadGiven}
-use Rattle.read.proofs.Rooms.{Fits, Sized, fits_told_lem, given-read, of-vp3}
+use Rattle.read.proofs.Rooms.{Sized, fits_told_lem, given-read, of-vp3}
 
 row-accepts : (v : Verdict) → verdict (row_of v) ≡ Accepted → v ≡ Accepted
 unfolding verdict row_of

@@ -1,11 +1,11 @@
 -- What a tally of commands tells: refusals 6 to 9 of the list. Assumes nothing.
-use Rattle.std.specs.Prelude.{ℕ, ◌+◌, ◌≤◌, ◌≡◌, refl, Bool, true, false, ◌&&◌, ◌||◌, not, List, [], ◌∷◌, ◌++◌, map, ltb, eqb, pos, length}
+use Rattle.std.specs.Prelude.{ℕ, ◌+◌, ◌≤◌, ◌≡◌, refl, Bool, true, false, ◌&&◌, ◌||◌, not, List, [], ◌∷◌, ◌++◌, map, ltb, eqb, length}
 use Rattle.std.proofs.Common.{sym, ap, ◌∙◌, zero-add, arith, eq-eqb}
 use Rattle.std.proofs.Math.Bool.{or_assoc}
 use Rattle.std.proofs.lemmas.List.{length-map}
-use Rattle.rules.specs.Vocabulary.{pick, any, count}
-use Rattle.rules.specs.Lists.{commands, ends_once, any_from}
-use Rattle.rules.specs.Refusals.{bad_list, place_outside, outside, changes, too_many, moves, moved, verdict, command_verdict}
+use Rattle.rules.specs.Vocabulary.{any, count}
+use Rattle.rules.specs.Lists.{ends_once, any_from}
+use Rattle.rules.specs.Refusals.{bad_list, place_outside, outside, changes, too_many, moves, moved, command_verdict}
 use Rattle.rules.specs.Jobs.{unknown_kind}
 use Rattle.rules.specs.Promises.{xs_of, ys_of, kinds_of}
 use Rattle.rules.specs.declared.Cmd.{Cmd}

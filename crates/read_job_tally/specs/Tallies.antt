@@ -1,5 +1,5 @@
 -- What commands make of a tally, and what a tally tells of refusals 6 to 9.
-use Rattle.std.specs.Prelude.{ℕ, ◌+◌, ◌/◌, ◌%◌, ◌≤◌, ◌≡◌, Bool, false, ◌||◌, not, List, [], ◌∷◌, ltb, eqb, pos}
+use Rattle.std.specs.Prelude.{ℕ, ◌+◌, ◌/◌, ◌%◌, ◌≤◌, Bool, false, ◌||◌, not, List, [], ◌∷◌, ltb, eqb, pos}
 use Rattle.rules.specs.Vocabulary.{pick}
 use Rattle.rules.specs.Limits.{most_commands, most_changes, most_threads}
 use Rattle.rules.specs.Refusals.{outside, changes, moves, verdict}

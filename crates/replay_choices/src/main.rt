@@ -7,6 +7,8 @@ ghost use Rattle.std.specs.Prelude.{◌+◌, ◌≤◌, ◌<◌};
 ghost use Rattle.replay_choices.specs.Score.{Counted};
 
 use replay::bytes::{byte, word};
+use std::fs::File;
+use std::io;
 
 // How many answers agree, and how many do not.
 #[derive(Clone, Copy)]
@@ -57,28 +59,23 @@ fn replay(cases: &[u8], n: usize, what: u8) -> Score
     s
 }
 
-fn show(name: &[u8], s: Score) {
-    replay::show(name, s.right as u64, s.wrong as u64, 0);
+fn show(out: &impl Print, name: &str, s: Score) -> io::Result<()> {
+    replay::show(out, name, s.right as u64, s.wrong as u64, 0)
 }
 
-fn show_all(cases: &[u8], n: usize)
+fn show_all(out: &impl Print, cases: &[u8], n: usize) -> io::Result<()>
     requires { Counted n cases.now }
 {
-    show(b"color_distance", replay(cases, n, 0));
-    show(b"nearest_index", replay(cases, n, 1));
-    show(b"jef_palette", replay(cases, n, 2));
-    show(b"nearest_index of a part", replay(cases, n, 3));
-    show(b"stream_bounds", replay(cases, n, 4));
+    show(out, "color_distance", replay(cases, n, 0))?;
+    show(out, "nearest_index", replay(cases, n, 1))?;
+    show(out, "jef_palette", replay(cases, n, 2))?;
+    show(out, "nearest_index of a part", replay(cases, n, 3))?;
+    show(out, "stream_bounds", replay(cases, n, 4))
 }
 
-fn main() {
-    let fd = os::open_read(b"choices");
-    if fd < 0 {
-        os::fail(b"choices");
-        return;
-    }
+fn main(rt: HostRuntime) -> io::Result<()> {
+    let mut file = File::open(&rt, "choices")?;
     let mut cases = [0u8; 65536];
-    let n = io::read_full(fd, &mut cases);
-    libc::close(fd);
-    show_all(&cases, n);
+    let n = replay::read_full(&mut file, &mut cases)?;
+    show_all(&rt, &cases, n)
 }
