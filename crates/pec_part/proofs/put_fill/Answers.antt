@@ -5,9 +5,7 @@ use mathlib.Core.List.{List, ◌∷◌}
 use native.Mathlib.Omega.{arith}
 use lib.ListN.{take, drop, replicate}
 use Rattle.laws.specs.Buffers.{put_as}
-use borrow.Author.Rules.{rules}
-use Rattle.pec_part.proofs.put_fill.Statement.{statement}
-use Rattle.pec_part.proofs.put_fill.Tie as tie
+use Rattle.pec_part.proofs.put_fill.Goals as goal
 
 less-less : (k n : ℕ) → suc k - suc n ≡ k - n
 less-less k n = omega arith
@@ -30,11 +28,5 @@ all_of (suc k) = ap (λ (s : List ℕ). 0x20 ∷ s) (all_of k)
 rest : (k n : ℕ) → take {A = ℕ} (k - n) (drop n (replicate k 0x20)) ≡ replicate (k - n) 0x20
 rest k n = rw (blanks k n) (all_of (k - n))
 
-returns : tie.Need-returns
-returns c = put_as c.before.before.put-text.ensures (rest 463 c.before.before.before.before.before.before.before.args.n)
-
-pub put-fill-spec : {M : Type 1} → statement M
-put-fill-spec =
-    tie.close
-    (tie.spec
-    (λ c. search rules) (λ c. search rules) (λ c. search rules) (λ c κs. search rules) (λ c. search rules) returns)
+pub returns : goal.returns
+returns c = put_as c.put_text.ensures (rest 463 c.args.n)
