@@ -5,19 +5,14 @@ use mir.Syntax.{w32}
 use mir.Val.{to_z, of_z}
 use Rattle.laws.specs.Ints.{ints, seen, abs_is}
 use Rattle.laws.specs.Places.{apart}
-use Rattle.vp3.proofs.blocks.step.Statement.{statement}
-use Rattle.vp3.proofs.blocks.step.Tie as tie
+use Rattle.vp3.proofs.blocks.step.Goals as goal
 
-sub-result : tie.Need-overflow-sub-result
-sub-result c = let a = c.args in omega (ints, seen c.ranges.to, seen c.ranges.from, abs_is a.to, abs_is a.from)
+pub overflow_sub-result : goal.overflow_sub-result
+overflow_sub-result c = let a = c.args in omega (ints, seen c.ranges.to, seen c.ranges.from, abs_is a.to, abs_is a.from)
 
-returns : tie.Need-returns
-returns c =
-    let a = c.args in
-    let h = sub-result c in
+pub returns : goal.returns
+returns c = let a = c.args in
+    let h = overflow_sub-result c in
     let e : to_z w32 (of_z w32 (to_z w32 (of_z w32 a.to) -ℤ to_z w32 (of_z w32 a.from))) ≡ a.to -ℤ a.from
     = omega (ints, seen c.ranges.to, seen c.ranges.from) in
     (e, rw e (apart a.to a.from c.requires.1 c.requires.0))
-
-pub step_spec : {M : Type 1} → statement M
-step_spec = tie.close (tie.spec sub-result returns)
