@@ -10,7 +10,7 @@ use lib.Dec.{ltb}
 use lib.IntN.{ℤ, pos}
 use lib.ListN.{length, take, drop, set}
 use lib.Seq.{take_at}
-use Rattle.rules.specs.Lists.{op_of, is_change, commands}
+use Rattle.rules.specs.Lists.{commands}
 use Rattle.rules.specs.Refusals.{place_outside}
 use Rattle.rules.specs.Thumbnails.{color_blocks}
 use Rattle.rules.specs.Vp3.{end_x, end_y, stitches_from}

@@ -6,10 +6,8 @@ use mathlib.Core.List.{List, [], ◌∷◌}
 use native.Mathlib.Nat.{not-suc-le-zero, le_of_suc-le-suc, suc-add, zero-add}
 use native.Mathlib.Omega.{arith}
 use lib.ListN.{length, take, drop, get_or, length-drop}
-use Rattle.rules.specs.Vocabulary.{count}
 use Rattle.rules.specs.Charts.{color}
 use Rattle.rules.specs.Lists.{op_of, is_change, threads_of}
-use Rattle.rules.specs.Refusals.{changes}
 use Rattle.rules.specs.Thumbnails.{at_front, color_blocks}
 use Rattle.rules.specs.Vp3.{or_black}
 use Rattle.rules.specs.declared.Cmd.{Cmd}

@@ -1,19 +1,15 @@
 -- One turn of a loop over the commands of a block: a stitch, or another command. Assumes nothing.
 use Prim.Native.Nat.{ℕ, zero, suc, ◌+◌, ◌*◌, ◌≤◌, ◌<◌}
 use mathlib.Core.Path.{◌≡◌, refl, ap, ◌∙◌}
-use mathlib.Core.Bool.{true, false, ◌&&◌}
-use mathlib.Core.List.{List, [], ◌∷◌, ◌++◌}
+use mathlib.Core.Bool.{true, false}
+use mathlib.Core.List.{List, ◌∷◌, ◌++◌}
 use native.Mathlib.Omega.{arith}
-use lib.IntN.{ℤ, pos, neg_ℤ, nat_abs, ◌-ℤ◌}
+use lib.IntN.{ℤ, pos, nat_abs, ◌-ℤ◌}
 use lib.ListN.{length, get_or, length-append}
-use Rattle.rules.specs.Vocabulary as vocabulary
 use Rattle.rules.specs.Lists.{op_of, is_change, commands}
 use Rattle.rules.specs.Refusals.{place_outside}
-use Rattle.rules.specs.Vp3.{big, stitch_of, vp3_cmd, last_stitch, stitches_from}
+use Rattle.rules.specs.Vp3.{stitch_of, vp3_cmd, last_stitch, stitches_from}
 use Rattle.rules.specs.declared.Cmd.{Cmd}
-use Rattle.rules.specs.declared.Op.{Op}
-use Rattle.rules.specs.declared.Op.TheVariants.{Stitch, Jump, Trim, ColorChange, End}
-use Rattle.laws.specs.Tests.{by-test}
 use Rattle.laws.specs.Vp3Lengths.{stitches-length}
 use Rattle.laws.specs.Places.{Small, Within, every}
 use Rattle.laws.specs.Listing.{cmd_at, commands-at, commands-more}

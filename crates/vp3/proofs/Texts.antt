@@ -1,5 +1,5 @@
 -- The parts of a file as the code writes them: one text behind the other, and how long they are. Assumes nothing.
-use Prim.Native.Nat.{ℕ, zero, suc, ◌+◌, ◌-◌, ◌*◌}
+use Prim.Native.Nat.{ℕ, suc, ◌+◌, ◌-◌, ◌*◌}
 use mathlib.Core.Path.{◌≡◌, refl, sym, ap, ◌∙◌}
 use mathlib.Core.List.{List, [], ◌∷◌, ◌++◌, append_assoc, append-nil}
 use native.Mathlib.Omega.{arith}
@@ -8,7 +8,7 @@ use lib.ListN.{length, drop, length-append}
 use Rattle.rules.specs.Vocabulary.{joined}
 use Rattle.rules.specs.Lists.{width, height}
 use Rattle.rules.specs.Thumbnails.{color_blocks}
-use Rattle.rules.specs.Vp3.{big, toward_zero, field, sized, text8, text16, vp3_opening, producer, hex_text, color_text, end_x, end_y, stitches_from, hundred}
+use Rattle.rules.specs.Vp3.{big, toward_zero, sized, text8, text16, vp3_opening, producer, hex_text, color_text, end_x, end_y, stitches_from, hundred}
 use Rattle.rules.specs.Vp3.{color_part, or_black, color_parts, design_part, file_part, vp3_file}
 use Rattle.rules.specs.declared.Cmd.{Cmd}
 use Rattle.rules.specs.declared.Color.{Color}

@@ -1,5 +1,5 @@
 -- What stands before the stitches, as the code has it: lengths are given.
-use Rattle.std.specs.Prelude.{ℕ, ◌+◌, ◌-◌, ◌/◌, ◌≤◌, List, [], ◌∷◌, ◌++◌, ℤ, pos, neg_ℤ, nat_abs, ◌+ℤ◌, ◌-ℤ◌, ◌*ℤ◌}
+use Rattle.std.specs.Prelude.{ℕ, ◌+◌, ◌-◌, ◌/◌, ◌≤◌, List, [], ◌∷◌, ◌++◌, pos, neg_ℤ, nat_abs, ◌+ℤ◌, ◌-ℤ◌, ◌*ℤ◌}
 use Rattle.rules.specs.Vocabulary.{joined}
 use Rattle.rules.specs.Vp3.{big, toward_zero, text8, text16, vp3_opening, producer, color_text, hundred}
 use Rattle.rules.specs.declared.Color.{Color}

@@ -28,7 +28,6 @@ pub struct Way {
 }
 
 // The opening, a fixed text, and the length of the file part.
-#[tactic(auto, unfolding(rules::specs::Vp3::text16, rules::specs::Vp3::text8, rules::specs::Vp3::big, rules::specs::Vocabulary::joined))]
 pub fn put_opening(len: usize, out: &mut [u8]) -> usize
     requires { (len < 4294967296) × (71 ≤ length out.old) }
     ensures { Puts out 0 result (opening_text len) }
@@ -41,7 +40,6 @@ pub fn put_opening(len: usize, out: &mut [u8]) -> usize
 }
 
 // Bounds, commands but the end, blocks, and the length of the design part.
-#[tactic(auto, unfolding(rules::specs::Vp3::hundred, rules::specs::Vp3::field, rules::specs::Vp3::big))]
 pub fn put_sizes(
     b: Bounds,
     commands: usize,
@@ -66,7 +64,6 @@ pub fn put_sizes(
 }
 
 // Half sizes with both signs, and the size.
-#[tactic(auto, unfolding(rules::specs::Vp3::hundred, rules::specs::Vp3::field, rules::specs::Vp3::big))]
 fn put_halves(w: u32, h: u32, out: &mut [u8], at: usize) -> usize
     requires { (w ≤ 32000) × ((h ≤ 32000) × (at + 24 ≤ length out.old)) }
     ensures { Puts out at result (halves_text w h) }
@@ -82,7 +79,6 @@ fn put_halves(w: u32, h: u32, out: &mut [u8], at: usize) -> usize
 }
 
 // Centre, sizes, a text, four numbers, a fixed text, and the count of blocks.
-#[tactic(auto, unfolding(rules::specs::Vp3::hundred, rules::specs::Vp3::field, rules::specs::Vp3::big, rules::specs::Vp3::text16, rules::specs::Vp3::text8, rules::specs::Vocabulary::joined, crate::specs::Heads::halves_text))]
 pub fn put_design(b: Bounds, m: Middle, blocks: usize, out: &mut [u8], at: usize) -> usize
     requires { Near b × (Wide m × ((blocks ≤ 255) × (at + 121 ≤ length out.old))) }
     ensures { Puts out at result (design_text b m blocks) }
@@ -141,7 +137,6 @@ fn put_color(c: Color, out: &mut [u8], at: usize) -> usize
 }
 
 // A colour block up to its stitches: 56 bytes.
-#[tactic(auto, unfolding(rules::specs::Vp3::hundred, rules::specs::Vp3::field, rules::specs::Vp3::big, rules::specs::Vp3::text8, rules::specs::Vp3::color_text, rules::specs::Vp3::hex_text, rules::specs::Vocabulary::joined, crate::specs::Heads::color_bytes))]
 pub fn put_block_head(m: Middle, w: Way, c: Color, out: &mut [u8], at: usize) -> usize
     requires { Wide m × (NearWay w × (at + 56 ≤ length out.old)) }
     ensures { Puts out at result (block_text m w c) }

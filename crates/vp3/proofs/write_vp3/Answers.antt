@@ -1,7 +1,6 @@
 -- The checks decide, and then the room.
 use Rattle.rules.specs.Files.{file_of, distance_of}
 use Rattle.emit.proofs.Writes.{fine, wrote, not-wrote}
-use borrow.Author.Rules.{rules}
 use Rattle.vp3.proofs.write_vp3.Goals as goal
 
 pub write_accepted-requires : goal.write_accepted-requires

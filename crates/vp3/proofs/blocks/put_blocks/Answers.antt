@@ -1,5 +1,5 @@
 -- What is written is as far as the place; what comes is what the blocks left take.
-use Prim.Native.Nat.{◌-◌, ◌≤◌, ◌<◌}
+use Prim.Native.Nat.{◌≤◌, ◌<◌}
 use native.Mathlib.Omega.{arith}
 use lib.ListN.{length, get_or}
 use mir.Syntax.{w32}
@@ -9,7 +9,7 @@ use Rattle.laws.specs.Listing.{length-commands}
 use Rattle.vp3.proofs.Numbers.{read}
 use Rattle.laws.specs.Lengths.{length-blocks}
 use Rattle.vp3.proofs.Listings.{Block, block-found}
-use Rattle.vp3.proofs.Layings.{Laying, laying-start, laying-some, laying-end, laying-within, laying-little, laying-room, laying-on, laying-done, listed-room}
+use Rattle.vp3.proofs.Layings.{laying-start, laying-some, laying-end, laying-within, laying-little, laying-room, laying-on, laying-done, listed-room}
 use Rattle.vp3.proofs.blocks.put_blocks.Goals as goal
 
 pub loop-k-init : goal.loop-k-init

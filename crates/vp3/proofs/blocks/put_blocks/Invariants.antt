@@ -1,15 +1,7 @@
 -- What is written is as far as the place; what comes is what the blocks left take.
-use Prim.Native.Nat.{◌-◌, ◌≤◌, ◌<◌}
-use native.Mathlib.Omega.{arith}
-use lib.ListN.{length, get_or}
-use mir.Syntax.{w32}
-use mir.Val.{to_z}
-use Rattle.rules.specs.Lists.{commands, threads_of}
-use Rattle.laws.specs.Listing.{length-commands}
-use Rattle.vp3.proofs.Numbers.{read}
-use Rattle.laws.specs.Lengths.{length-blocks}
-use Rattle.vp3.proofs.Listings.{Block, block-found}
-use Rattle.vp3.proofs.Layings.{Laying, laying-start, laying-some, laying-end, laying-within, laying-little, laying-room, laying-on, laying-done, listed-room}
+use Prim.Native.Nat.{◌-◌}
+use Rattle.rules.specs.Lists.{threads_of}
+use Rattle.vp3.proofs.Layings.{Laying}
 use Rattle.vp3.proofs.blocks.put_blocks.Given as goal
 
 abbrev pub invariant-loop-k : goal.invariant-loop-k

@@ -1,5 +1,5 @@
 -- What is written is as far as the place; what comes is what the commands left take, from the last stitch.
-use Prim.Native.Nat.{ℕ, ◌+◌, ◌-◌}
+use Prim.Native.Nat.{ℕ, ◌+◌}
 use native.Mathlib.Omega.{arith}
 use mir.Facts.{to_z-of_z}
 use mir.Syntax.{w32}
@@ -9,16 +9,13 @@ use lib.ListN.{get_or}
 use borrow.Author.Tests.{eqb-true}
 use lib.IntN.{ℤ, ◌-ℤ◌}
 use mathlib.Core.List.{List}
-use Rattle.rules.specs.Lists.{commands}
-use Rattle.rules.specs.Vp3.{stitch_of, vp3_cmd, last_stitch, stitches_from}
+use Rattle.rules.specs.Vp3.{stitch_of, vp3_cmd, last_stitch}
 use Rattle.laws.specs.Listing.{cmd_at, Listed, listed, length-commands}
 use Rattle.laws.specs.Places.{Small}
-use Rattle.vp3.specs.Blocks.{between}
 use Rattle.vp3.proofs.Numbers.{read, back-small}
-use Rattle.vp3.proofs.Stitches.{Stitching, Here, Moves, Turn, read_at, here, near-across, near_down, moves, stitch-start, stitch-room, stitch-on, stitch-done}
+use Rattle.vp3.proofs.Stitches.{Here, Moves, Turn, read_at, here, near-across, near_down, moves, stitch-start, stitch-room, stitch-on, stitch-done}
 use Rattle.vp3.proofs.Pairs.{place-turn}
 use Rattle.vp3.proofs.Turns.{cmd-turn, two-room, two-on}
-use borrow.Author.Rules.{rules}
 use Rattle.vp3.proofs.blocks.put_stitches.Goals as goal
 
 -- the turns of two stitches
@@ -34,9 +31,10 @@ last-is {r} e h = back-small r (rw e (omega (arith, h))) ∙ e
 pub loop-i-init : goal.loop-i-init
 loop-i-init c =
     let a = c.args in
+    let pre = c.requires in
     rw (to_z-of_z c.ranges.x, to_z-of_z c.ranges.y)
     (stitch-start a.xs.now a.ys.now a.kinds.now a.out.now a.at a.from a.end a.x a.y
-    c.requires.from_le_end.0 c.requires.from_le_end.1 c.requires.x_bound.0 c.requires.x_bound.1 c.requires.end_in_bounds)
+    pre.from_le_end.0 pre.from_le_end.1 pre.x_bound.0 pre.x_bound.1 pre.end_in_bounds)
 
 pub overflow_add-i : goal.overflow_add-i
 overflow_add-i c = let a = c.args in omega (arith, c.loop-i.invariant.listed, length-commands a.xs.now a.ys.now a.kinds.now)
@@ -122,7 +120,8 @@ put_two-to-requires c =
     here a.xs.now a.ys.now a.kinds.now (c.loop-i.i + 1) c.requires.kinds_value (omega (arith, c.loop-i.invariant.listed)) in
     let both : (
     let a = c.args in
-    Both a.xs.now a.ys.now a.kinds.now c.loop-i.i (to_z w32 c.loop-i.px-bits) (to_z w32 c.loop-i.py-bits)) = let ks = c.args.kinds.now in
+    Both a.xs.now a.ys.now a.kinds.now c.loop-i.i (to_z w32 c.loop-i.px-bits) (to_z w32 c.loop-i.py-bits)) = let o = c in
+    let ks = c.args.kinds.now in
     let i = c.loop-i.i in
     let zero : get_or ks i 0 + get_or ks (i + 1) 0 ≡ 0 = eqb-true _ _ (sym c.are_stitches.ensures ∙ c.if-are_stitches.true) in
     record { one = place-turn ks _ _ place (omega (arith, zero)); two = place-turn ks _ _ next (omega (arith, zero)) } in
@@ -144,7 +143,8 @@ loop-i-preserved-then-are_stitches c =
     here a.xs.now a.ys.now a.kinds.now (c.loop-i.i + 1) c.requires.kinds_value (omega (arith, c.loop-i.invariant.listed)) in
     let both : (
     let a = c.args in
-    Both a.xs.now a.ys.now a.kinds.now c.loop-i.i (to_z w32 c.loop-i.px-bits) (to_z w32 c.loop-i.py-bits)) = let ks = c.args.kinds.now in
+    Both a.xs.now a.ys.now a.kinds.now c.loop-i.i (to_z w32 c.loop-i.px-bits) (to_z w32 c.loop-i.py-bits)) = let o = c in
+    let ks = c.args.kinds.now in
     let i = c.loop-i.i in
     let zero : get_or ks i 0 + get_or ks (i + 1) 0 ≡ 0 = eqb-true _ _ (sym c.are_stitches.ensures ∙ c.if-are_stitches.true) in
     record { one = place-turn ks _ _ place (omega (arith, zero)); two = place-turn ks _ _ next (omega (arith, zero)) } in

@@ -8,7 +8,6 @@ use mir.Syntax.{w32}
 use mir.Val.{SFits}
 use Rattle.laws.specs.Buffers.{put-put}
 use Rattle.vp3.proofs.Numbers.{read, back-small}
-use borrow.Author.Rules.{rules}
 use Rattle.vp3.proofs.blocks.put_two.Goals as goal
 
 -- what `step` ensures, as `put_stitch` reads it
@@ -21,22 +20,26 @@ stepped {z = z} f g e =
     let p : read z ≡ z = back-small z (omega (arith, e.1)) in
     record { is = p ∙ rw (to_z-of_z f, to_z-of_z g) at e.0; near = rw p (omega (arith, e.1)) }
 
-pub put_stitch-second-requires : goal.put_stitch-second-requires
-put_stitch-second-requires c = let f = c.ranges in
-    let dx = stepped f.x f.nx c.step.ensures in let dy = stepped f.y f.ny c.step-2.ensures in
-    (dx.near, (dy.near, rw (dx.is, dy.is) (omega (arith, c.requires.ny_in_bounds))))
-
-pub put_stitch-requires : goal.put_stitch-requires
-put_stitch-requires c =
-    let f = c.ranges in
-    let dx = stepped f.x f.nx c.step.ensures in let dy = stepped f.y f.ny c.step-2.ensures in
-    let ex = stepped f.nx f.mx c.step-3.ensures in let ey = stepped f.ny f.my c.step-4.ensures in
-    let p = rw (dx.is, dy.is) at c.put_stitch-second.ensures in
-    (ex.near, (ey.near, rw (ex.is, ey.is) (omega (arith, c.requires.ny_in_bounds, p.ends, p.same))))
-
 pub returns : goal.returns
 returns c =
     let f = c.ranges in
     let dx = stepped f.x f.nx c.step.ensures in let dy = stepped f.y f.ny c.step-2.ensures in
     let ex = stepped f.nx f.mx c.step-3.ensures in let ey = stepped f.ny f.my c.step-4.ensures in
     put-put (rw (dx.is, dy.is) at c.put_stitch-second.ensures) (rw (ex.is, ey.is) at c.put_stitch.ensures)
+
+pub put_stitch-second-requires : goal.put_stitch-second-requires
+put_stitch-second-requires c =
+    let f = c.ranges in
+    let dx = stepped f.x f.nx c.step.ensures in
+    let dy = stepped f.y f.ny c.step-2.ensures in
+    (dx.near, (dy.near, rw (dx.is, dy.is) (omega (arith, c.requires.ny_in_bounds))))
+
+pub put_stitch-requires : goal.put_stitch-requires
+put_stitch-requires c =
+    let f = c.ranges in
+    let dx = stepped f.x f.nx c.step.ensures in
+    let dy = stepped f.y f.ny c.step-2.ensures in
+    let ex = stepped f.nx f.mx c.step-3.ensures in
+    let ey = stepped f.ny f.my c.step-4.ensures in
+    let p = rw (dx.is, dy.is) at c.put_stitch-second.ensures in
+    (ex.near, (ey.near, rw (ex.is, ey.is) (omega (arith, c.requires.ny_in_bounds, p.ends, p.same))))

@@ -1,5 +1,4 @@
 -- No command is left, or it is a colour change, or one that the block ends with.
-use borrow.Author.Rules.{rules}
 use native.Mathlib.Omega.{arith}
 use mathlib.Core.Path.{refl}
 use mir.Facts.{to_z-of_z}

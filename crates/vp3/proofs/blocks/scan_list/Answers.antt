@@ -1,12 +1,12 @@
 -- What is stored of the blocks so far, and what the blocks left give, come to the whole.
-use Prim.Native.Nat.{◌+◌, ◌-◌, ◌≤◌}
+use Prim.Native.Nat.{◌≤◌}
 use native.Mathlib.Omega.{arith}
 use lib.ListN.{length}
 use mir.Syntax.{w32}
 use mir.Val.{to_z}
 use Rattle.laws.specs.Listing.{length-commands}
 use Rattle.vp3.proofs.Numbers.{read}
-use Rattle.vp3.proofs.Listings.{Block, block-found, scanned-little, scanned-len, Going, going_start, going-little, going-room, going_on, going_done}
+use Rattle.vp3.proofs.Listings.{Block, block-found, scanned-little, scanned-len, going_start, going-little, going-room, going_on, going_done}
 use Rattle.vp3.proofs.blocks.scan_list.Goals as goal
 
 pub loop-from-init : goal.loop-from-init
@@ -66,9 +66,10 @@ overflow_add-total c =
     let r = c.scan_block-s.result in
     (c.loop-from.from ≤ r.end)
     × ((r.end ≤ length a.xs.now) × ((r.end ≤ length a.ys.now) × ((r.end ≤ 65535) × (r.len ≤ 524280))))) = let a = c.args in
+    let s = c.scan_block-s.ensures in
     let long = length-commands a.xs.now a.ys.now a.kinds.now in
     let n = c.loop-from.invariant.count in
-    (omega (arith, c.scan_block-s.ensures.end), (omega (arith, c.scan_block-s.ensures.within, long), (omega (arith, c.scan_block-s.ensures.within, long), (omega (arith, c.scan_block-s.ensures.within, n, few.0), omega (arith, scanned-little c.scan_block-s.ensures, n, few.0))))) in
+    (omega (arith, s.end), (omega (arith, s.within, long), (omega (arith, s.within, long), (omega (arith, s.within, n, few.0), omega (arith, scanned-little s, n, few.0))))) in
     omega (arith, going-little c.loop-from.invariant, few.0, ends)
 
 pub end_of-x-requires : goal.end_of-x-requires
@@ -82,9 +83,10 @@ end_of-x-requires c =
     let r = c.scan_block-s.result in
     (c.loop-from.from ≤ r.end)
     × ((r.end ≤ length a.xs.now) × ((r.end ≤ length a.ys.now) × ((r.end ≤ 65535) × (r.len ≤ 524280))))) = let a = c.args in
+    let s = c.scan_block-s.ensures in
     let long = length-commands a.xs.now a.ys.now a.kinds.now in
     let n = c.loop-from.invariant.count in
-    (omega (arith, c.scan_block-s.ensures.end), (omega (arith, c.scan_block-s.ensures.within, long), (omega (arith, c.scan_block-s.ensures.within, long), (omega (arith, c.scan_block-s.ensures.within, n, few.0), omega (arith, scanned-little c.scan_block-s.ensures, n, few.0))))) in
+    (omega (arith, s.end), (omega (arith, s.within, long), (omega (arith, s.within, long), (omega (arith, s.within, n, few.0), omega (arith, scanned-little s, n, few.0))))) in
     let e = ends in (e.0, e.1.0)
 
 pub end_of-y-requires : goal.end_of-y-requires
@@ -98,9 +100,10 @@ end_of-y-requires c =
     let r = c.scan_block-s.result in
     (c.loop-from.from ≤ r.end)
     × ((r.end ≤ length a.xs.now) × ((r.end ≤ length a.ys.now) × ((r.end ≤ 65535) × (r.len ≤ 524280))))) = let a = c.args in
+    let s = c.scan_block-s.ensures in
     let long = length-commands a.xs.now a.ys.now a.kinds.now in
     let n = c.loop-from.invariant.count in
-    (omega (arith, c.scan_block-s.ensures.end), (omega (arith, c.scan_block-s.ensures.within, long), (omega (arith, c.scan_block-s.ensures.within, long), (omega (arith, c.scan_block-s.ensures.within, n, few.0), omega (arith, scanned-little c.scan_block-s.ensures, n, few.0))))) in
+    (omega (arith, s.end), (omega (arith, s.within, long), (omega (arith, s.within, long), (omega (arith, s.within, n, few.0), omega (arith, scanned-little s, n, few.0))))) in
     let e = ends in (e.0, e.1.1.0)
 
 pub overflow_add-k : goal.overflow_add-k
@@ -122,9 +125,10 @@ overflow_add-from c =
     let r = c.scan_block-s.result in
     (c.loop-from.from ≤ r.end)
     × ((r.end ≤ length a.xs.now) × ((r.end ≤ length a.ys.now) × ((r.end ≤ 65535) × (r.len ≤ 524280))))) = let a = c.args in
+    let s = c.scan_block-s.ensures in
     let long = length-commands a.xs.now a.ys.now a.kinds.now in
     let n = c.loop-from.invariant.count in
-    (omega (arith, c.scan_block-s.ensures.end), (omega (arith, c.scan_block-s.ensures.within, long), (omega (arith, c.scan_block-s.ensures.within, long), (omega (arith, c.scan_block-s.ensures.within, n, few.0), omega (arith, scanned-little c.scan_block-s.ensures, n, few.0))))) in
+    (omega (arith, s.end), (omega (arith, s.within, long), (omega (arith, s.within, long), (omega (arith, s.within, n, few.0), omega (arith, scanned-little s, n, few.0))))) in
     omega (arith, ends)
 
 pub loop-from-smaller : goal.loop-from-smaller
@@ -138,9 +142,10 @@ loop-from-smaller c =
     let r = c.scan_block-s.result in
     (c.loop-from.from ≤ r.end)
     × ((r.end ≤ length a.xs.now) × ((r.end ≤ length a.ys.now) × ((r.end ≤ 65535) × (r.len ≤ 524280))))) = let a = c.args in
+    let s = c.scan_block-s.ensures in
     let long = length-commands a.xs.now a.ys.now a.kinds.now in
     let n = c.loop-from.invariant.count in
-    (omega (arith, c.scan_block-s.ensures.end), (omega (arith, c.scan_block-s.ensures.within, long), (omega (arith, c.scan_block-s.ensures.within, long), (omega (arith, c.scan_block-s.ensures.within, n, few.0), omega (arith, scanned-little c.scan_block-s.ensures, n, few.0))))) in
+    (omega (arith, s.end), (omega (arith, s.within, long), (omega (arith, s.within, long), (omega (arith, s.within, n, few.0), omega (arith, scanned-little s, n, few.0))))) in
     omega (arith, ends, c.loop-from-test.true)
 
 pub loop-from-preserved : goal.loop-from-preserved

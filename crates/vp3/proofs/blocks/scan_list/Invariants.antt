@@ -1,12 +1,6 @@
 -- What is stored of the blocks so far, and what the blocks left give, come to the whole.
-use Prim.Native.Nat.{◌+◌, ◌-◌, ◌≤◌}
-use native.Mathlib.Omega.{arith}
-use lib.ListN.{length}
-use mir.Syntax.{w32}
-use mir.Val.{to_z}
-use Rattle.laws.specs.Listing.{length-commands}
-use Rattle.vp3.proofs.Numbers.{read}
-use Rattle.vp3.proofs.Listings.{Block, block-found, scanned-little, scanned-len, Going, going_start, going-little, going-room, going_on, going_done}
+use Prim.Native.Nat.{◌+◌, ◌-◌}
+use Rattle.vp3.proofs.Listings.{Going}
 use Rattle.vp3.proofs.blocks.scan_list.Given as goal
 
 abbrev pub invariant-loop-from : goal.invariant-loop-from

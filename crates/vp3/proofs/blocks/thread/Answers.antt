@@ -1,5 +1,4 @@
 -- By the bytes that there are.
-use borrow.Author.Rules.{rules}
 use mathlib.Core.Path.{sym}
 use Rattle.vp3.proofs.Splits.{thread-black, thread-here}
 use Rattle.vp3.proofs.blocks.thread.Goals as goal

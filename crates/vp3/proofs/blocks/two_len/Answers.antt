@@ -1,5 +1,4 @@
 -- Two steps, one after the other.
-use borrow.Author.Rules.{rules}
 use native.Mathlib.Omega.{arith}
 use Rattle.vp3.proofs.Pairs.{stepped}
 use Rattle.vp3.proofs.blocks.two_len.Goals as goal

@@ -2,7 +2,6 @@
 use mathlib.Core.Path.{sym}
 use Rattle.rules.specs.Vp3.{hex_char}
 use Rattle.laws.specs.Tests.{pick-lt, pick-ge}
-use borrow.Author.Rules.{rules}
 use Rattle.vp3.proofs.heads.hex_char.Goals as goal
 
 pub returns-then-d-lt10 : goal.returns-then-d-lt10

@@ -8,7 +8,6 @@ use Rattle.rules.specs.Vp3.{big, field, hundred}
 use Rattle.laws.specs.Buffers.{put_as, put-put, put-nothing}
 use Rattle.vp3.specs.Heads.{halves_text}
 use Rattle.vp3.proofs.Numbers.{back-small, minus-fits, minus-back, asked, asked-minus}
-use borrow.Author.Rules.{rules}
 use Rattle.vp3.proofs.heads.put_halves.Goals as goal
 
 pub overflow_sub-x : goal.overflow_sub-x
@@ -39,6 +38,14 @@ put_hundred-fifth-requires c = (
   omega (arith, c.requires),
 )
 
+pub put_hundred-sixth-requires : goal.put_hundred-sixth-requires
+unfolding hundred field big
+put_hundred-sixth-requires c = (asked (pos c.args.w) (omega (arith, c.requires)), omega (arith, c.requires))
+
+pub put_hundred-requires : goal.put_hundred-requires
+unfolding hundred field big
+put_hundred-requires c = (asked (pos c.args.h) (omega (arith, c.requires)), omega (arith, c.requires))
+
 pub returns : goal.returns
 unfolding halves_text joined
 returns c =
@@ -49,3 +56,6 @@ returns c =
     (put-put (put_as c.put_hundred-fifth.ensures (ap hundred (back-small (pos (h / 2)) (omega (arith, c.requires)))))
     (put-put (put_as c.put_hundred-sixth.ensures (ap hundred (back-small (pos w) (omega (arith, c.requires)))))
     (put-put (put_as c.put_hundred.ensures (ap hundred (back-small (pos h) (omega (arith, c.requires))))) (put-nothing _ _))))))
+
+pub shape_of-out : goal.shape_of-out
+shape_of-out c = (returns c).same

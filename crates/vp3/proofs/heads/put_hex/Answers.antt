@@ -1,6 +1,5 @@
 -- Both digits.
 use Rattle.rules.specs.Vp3.{hex_text}
-use borrow.Author.Rules.{rules}
 use Rattle.vp3.proofs.heads.put_hex.Goals as goal
 
 pub returns : goal.returns

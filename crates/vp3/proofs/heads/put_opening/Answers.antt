@@ -11,3 +11,11 @@ unfolding opening_text joined vp3_opening producer
 returns c =
     put-put (put-put c.put_text-zero.ensures c.put-producer.ensures)
     (put-put c.put_text16-mark.ensures (put-put c.put3-size.ensures (put-put c.put_be32.ensures (put-nothing _ _))))
+
+pub put3-size-requires : goal.put3-size-requires
+unfolding text16 text8 big joined
+put3-size-requires c = search rules
+
+pub put_be32-requires : goal.put_be32-requires
+unfolding text16 text8 big joined
+put_be32-requires c = search rules
