@@ -3,11 +3,12 @@
 #![tactic(auto)]
 
 use command_line::{
-    FileAnswer, NumberAnswer, argument, extension, number_in, read_file, refused, usage,
+    FileAnswer, NumberAnswer, argument, extension, is_given, number_in, read_file, refused, usage,
 };
 use formats::extension_of;
-use libc::STDOUT_FILENO;
 use rules::{Extension, FitsAnswer, Hoop, Refusal};
+use std::io;
+use std::rt::{Env, Files};
 
 // The hoop that the arguments give, or that one of them is no number.
 #[derive(Clone, Copy)]
@@ -16,57 +17,72 @@ enum HoopAnswer {
     Wrong,
 }
 
-fn tell(answer: FitsAnswer) {
+fn tell(out: &impl Print, err: &impl Print, answer: FitsAnswer) -> io::Result<()> {
     match answer {
-        FitsAnswer::Yes => {
-            io::write_all(STDOUT_FILENO, b"yes\n");
+        FitsAnswer::Yes => println!(out; "yes"),
+        FitsAnswer::No => println!(out; "no"),
+        FitsAnswer::Unread(why) => {
+            refused(err, why);
+            Ok(())
         }
-        FitsAnswer::No => {
-            io::write_all(STDOUT_FILENO, b"no\n");
-        }
-        FitsAnswer::Unread(why) => refused(why),
     }
 }
 
-fn read_and_tell(name: &[u8], h: Hoop, bytes: &mut [u8]) {
-    let answer = read_file(name, bytes);
+fn read_and_tell<R: Files + Print>(
+    rt: &R,
+    err: &impl Print,
+    name: &[u8],
+    h: Hoop,
+    bytes: &mut [u8],
+) -> io::Result<()> {
+    let answer = read_file(rt, err, name, bytes);
     let FileAnswer::Read(n) = answer else {
-        return;
+        return Ok(());
     };
-    tell(stitch_box::fits(
+    let told = stitch_box::fits(
         extension(name),
         &bytes[..n],
         h.left,
         h.right,
         h.top,
         h.bottom,
-    ));
+    );
+    tell(rt, err, told)
 }
 
 // The prover takes an array as long as this as a slice only through a reference.
-fn lend(name: &[u8], h: Hoop, bytes: &mut [u8; 2097153]) {
-    read_and_tell(name, h, bytes);
+fn lend<R: Files + Print>(
+    rt: &R,
+    err: &impl Print,
+    name: &[u8],
+    h: Hoop,
+    bytes: &mut [u8; 2097153],
+) -> io::Result<()> {
+    read_and_tell(rt, err, name, h, bytes)
 }
 
 // The buffer has a byte more than a file may have, so that one that is too long is told.
-fn run(name: &[u8], h: Hoop) {
+fn run<R: Files + Print>(rt: &R, err: &impl Print, name: &[u8], h: Hoop) -> io::Result<()> {
     let mut bytes = [0u8; 2097153];
-    lend(name, h, &mut bytes);
+    lend(rt, err, name, h, &mut bytes)
 }
 
 // The extension is asked before the file is opened.
-fn fits(name: &[u8], h: Hoop) {
+fn fits<R: Files + Print>(rt: &R, err: &impl Print, name: &[u8], h: Hoop) -> io::Result<()> {
     let named = extension_of(extension(name));
     match named {
-        Extension::Of(_) => run(name, h),
-        Extension::Unknown => refused(Refusal::UnknownExtension),
+        Extension::Of(_) => run(rt, err, name, h),
+        Extension::Unknown => {
+            refused(err, Refusal::UnknownExtension);
+            Ok(())
+        }
     }
 }
 
 // Argument i as a number.
-fn number_at(i: usize) -> NumberAnswer {
-    let mut text = io::buffer();
-    let got = argument(i, &mut text);
+fn number_at(rt: &impl Env, i: usize) -> NumberAnswer {
+    let mut text = [0u8; 4096];
+    let got = argument(rt, i, &mut text);
     if !got.whole {
         return NumberAnswer::Wrong;
     }
@@ -75,20 +91,20 @@ fn number_at(i: usize) -> NumberAnswer {
 }
 
 // Arguments 2 to 5 as a hoop.
-fn hoop_given() -> HoopAnswer {
-    let left = number_at(2);
+fn hoop_given(rt: &impl Env) -> HoopAnswer {
+    let left = number_at(rt, 2);
     let NumberAnswer::Number(l) = left else {
         return HoopAnswer::Wrong;
     };
-    let right = number_at(3);
+    let right = number_at(rt, 3);
     let NumberAnswer::Number(r) = right else {
         return HoopAnswer::Wrong;
     };
-    let top = number_at(4);
+    let top = number_at(rt, 4);
     let NumberAnswer::Number(t) = top else {
         return HoopAnswer::Wrong;
     };
-    let bottom = number_at(5);
+    let bottom = number_at(rt, 5);
     let NumberAnswer::Number(b) = bottom else {
         return HoopAnswer::Wrong;
     };
@@ -100,26 +116,27 @@ fn hoop_given() -> HoopAnswer {
     })
 }
 
-fn wrong_arguments() {
-    usage(b"fits FILE LEFT RIGHT TOP BOTTOM");
+fn wrong_arguments(err: &impl Print) {
+    usage(err, b"fits FILE LEFT RIGHT TOP BOTTOM");
 }
 
-fn main() {
-    let mut name = io::buffer();
-    let first = argument(1, &mut name);
-    if os::arg_count() != 6 {
-        wrong_arguments();
-        return;
+fn main(rt: HostRuntime) -> io::Result<()> {
+    let err = rt.stderr();
+    let mut name = [0u8; 4096];
+    let first = argument(&rt, 1, &mut name);
+    if is_given(&rt, 6) {
+        wrong_arguments(&err);
+        return Ok(());
     }
     if !first.whole {
-        wrong_arguments();
-        return;
+        wrong_arguments(&err);
+        return Ok(());
     }
-    let given = hoop_given();
+    let given = hoop_given(&rt);
     let HoopAnswer::Given(h) = given else {
-        wrong_arguments();
-        return;
+        wrong_arguments(&err);
+        return Ok(());
     };
     let n = first.len;
-    fits(&name[..n], h);
+    fits(&rt, &err, &name[..n], h)
 }

@@ -7,7 +7,6 @@ use native.Mathlib.Omega.{arith}
 use lib.Dec.{ltb}
 use lib.IntN.{ℤ, pos, ◌+ℤ◌}
 use lib.ListN.{length, length-take, length-drop}
-use Rattle.rules.specs.Vocabulary.{pick}
 use Rattle.rules.specs.Answers.{places, start_of, points_after}
 use Rattle.rules.specs.Hoop.{in_hoop, all_in_hoop}
 use Rattle.rules.specs.Records.{Event, stitch, jump, change}
@@ -15,9 +14,7 @@ use Rattle.rules.specs.Vp3.{Blocks, block, cut, passed, blocks_from, stitch_even
 use Rattle.rules.specs.declared.Color.{Color}
 use Rattle.rules.specs.declared.Hoop.{Hoop}
 use Rattle.rules.specs.declared.Refusal.{Refusal}
-use Rattle.rules.specs.declared.Refusal.TheVariants.{OutOfRange}
-use Rattle.rules.specs.declared.Verdict.{Verdict}
-use Rattle.rules.specs.declared.Verdict.TheVariants.{Accepted, Refused}
+use Rattle.rules.specs.declared.Verdict.TheVariants.{Accepted}
 use Rattle.laws.specs.Verdicts.{first-false}
 use Rattle.laws.specs.Vp3Fields.{block-all}
 use Rattle.read_vp3_fields.specs.Fields.{within, BlockRead}

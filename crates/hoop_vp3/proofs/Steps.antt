@@ -1,13 +1,13 @@
 -- The stitches of a block looked at, one step or two stitches at once, and so on to the end. Assumes nothing.
 use Prim.Native.Nat.{ℕ, ◌+◌, ◌^◌, ◌≤◌, ◌<◌}
 use mathlib.Core.Path.{◌≡◌, refl, sym, ap, ◌∙◌}
-use mathlib.Core.Bool.{Bool, true, false, ◌&&◌, ◌||◌}
+use mathlib.Core.Bool.{true, false, ◌&&◌, ◌||◌}
 use mathlib.Core.List.{List}
 use native.Mathlib.Omega.{arith}
 use lib.IntN.{ℤ, pos, ◌+ℤ◌, +ℤ_idr}
 use lib.ListN.{length, get_or, drop}
 use lib.Signed.{mag}
-use Rattle.rules.specs.Vocabulary.{pick, signed}
+use Rattle.rules.specs.Vocabulary.{signed}
 use Rattle.rules.specs.Answers.{places}
 use Rattle.rules.specs.Hoop.{in_hoop, all_in_hoop}
 use Rattle.rules.specs.Vp3.{beyond, strays, stitch_events}

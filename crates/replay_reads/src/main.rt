@@ -14,6 +14,9 @@ use formats::extension_of;
 use read_header::part;
 use replay::{Outcome, count};
 use rules::{Extension, Format};
+use std::fs::File;
+use std::io;
+use std::io::Read;
 
 // A case is counted under its format, or under 6 if its extension is none.
 fn group(case: &[u8]) -> usize
@@ -35,55 +38,51 @@ fn group(case: &[u8]) -> usize
 
 // The next case of the list; false if there is none. One that runs past the end is wrong. Buffers
 // as long as the case hold its answer, which stands in the case.
-fn replay_one(
-    fd: i32,
+fn replay_one<R: Read>(
+    input: &mut R,
     tally: &mut [u64; 21],
     case: &mut [u8],
     places: &mut [i32],
     runs: &mut [u32],
     blocks: &mut [u32],
-) -> bool
+) -> io::Result<bool>
     requires { Roomy case.old places.old runs.old blocks.old }
 {
-    let next = replay::next(fd, case);
+    let next = replay::next(input, case)?;
     if !next.there {
-        return false;
+        return Ok(false);
     }
     let n = next.len;
     let bytes = part(case, 0, n);
     let group = group(bytes);
     if !next.whole {
         count(tally, group, Outcome::Wrong);
-        return true;
+        return Ok(true);
     }
     let outcome = verdicts::judged(bytes, &mut places[..n], &mut runs[..n], &mut blocks[..n]);
     count(tally, group, outcome);
-    true
+    Ok(true)
 }
 
 // Goes through the list to its end, or through as many cases as 32 bits count.
-fn replay(fd: i32, tally: &mut [u64; 21]) {
+fn replay<R: Read>(input: &mut R, tally: &mut [u64; 21]) -> io::Result<()> {
     let mut case = [0u8; 65536];
     let mut places = [buffers::PLACE; 65536];
     let mut runs = [buffers::CELL; 65536];
     let mut blocks = [buffers::CELL; 65536];
     let mut left: u32 = 4294967295;
     while 0 < left {
-        if !replay_one(fd, tally, &mut case, &mut places, &mut runs, &mut blocks) {
-            return;
+        if !replay_one(input, tally, &mut case, &mut places, &mut runs, &mut blocks)? {
+            return Ok(());
         }
         left -= 1;
     }
+    Ok(())
 }
 
-fn main() {
-    let fd = os::open_read(b"reads");
-    if fd < 0 {
-        os::fail(b"reads");
-        return;
-    }
+fn main(rt: HostRuntime) -> io::Result<()> {
+    let mut file = File::open(&rt, "reads")?;
     let mut tally = [0u64; 21];
-    replay(fd, &mut tally);
-    libc::close(fd);
-    replay::show_all(&tally);
+    replay(&mut file, &mut tally)?;
+    replay::show_all(&rt, &tally)
 }

@@ -2,7 +2,6 @@
 use super::buffers::{cells_stay, mark_cells, mark_places, places_stay};
 use super::bytes::extension;
 use super::walk::walked;
-use check::same;
 use read_header::part;
 use replay::bytes::{byte, word};
 use replay::{Outcome, verdict};
@@ -88,7 +87,7 @@ fn read_same(
         return false;
     }
     let n = byte(told, 1) as usize;
-    if !same(part(told, 2, n), label) {
+    if part(told, 2, n) != label {
         return false;
     }
     if !blocks_same(part(told, 2 + n, 65536), c, places, runs, blocks) {

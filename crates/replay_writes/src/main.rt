@@ -11,6 +11,9 @@ ghost use Rattle.replay_writes.specs.Room.{Roomy};
 use read_header::part;
 use replay::bytes::byte;
 use replay::{Outcome, count};
+use std::fs::File;
+use std::io;
+use std::io::Read;
 use verdicts::judged;
 
 // A case is counted under its format, or under 6 if that is none.
@@ -25,33 +28,33 @@ fn group(case: &[u8]) -> usize
 }
 
 // The next case of the list; false if there is none. One that runs past the end is wrong.
-fn replay_one(
-    fd: i32,
+fn replay_one<R: Read>(
+    input: &mut R,
     tally: &mut [u64; 21],
     case: &mut [u8],
     xs: &mut [i32],
     ys: &mut [i32],
     kinds: &mut [u8],
     out: &mut [u8],
-) -> bool
+) -> io::Result<bool>
     requires { (65536 ≡ length case.old) × Roomy xs.old ys.old kinds.old out.old }
 {
-    let next = replay::next(fd, case);
+    let next = replay::next(input, case)?;
     if !next.there {
-        return false;
+        return Ok(false);
     }
     let bytes = part(case, 0, next.len);
     let group = group(bytes);
     if !next.whole {
         count(tally, group, Outcome::Wrong);
-        return true;
+        return Ok(true);
     }
     count(tally, group, judged(bytes, xs, ys, kinds, out));
-    true
+    Ok(true)
 }
 
 // Goes through the list to its end, or through as many cases as 32 bits count.
-fn replay(fd: i32, tally: &mut [u64; 21]) {
+fn replay<R: Read>(input: &mut R, tally: &mut [u64; 21]) -> io::Result<()> {
     let mut case = [0u8; 65536];
     let mut xs = [0i32; 65536];
     let mut ys = [0i32; 65536];
@@ -59,21 +62,19 @@ fn replay(fd: i32, tally: &mut [u64; 21]) {
     let mut out = [0u8; 65536];
     let mut left: u32 = 4294967295;
     while 0 < left {
-        if !replay_one(fd, tally, &mut case, &mut xs, &mut ys, &mut kinds, &mut out) {
-            return;
+        if !replay_one(
+            input, tally, &mut case, &mut xs, &mut ys, &mut kinds, &mut out,
+        )? {
+            return Ok(());
         }
         left -= 1;
     }
+    Ok(())
 }
 
-fn main() {
-    let fd = os::open_read(b"writes");
-    if fd < 0 {
-        os::fail(b"writes");
-        return;
-    }
+fn main(rt: HostRuntime) -> io::Result<()> {
+    let mut file = File::open(&rt, "writes")?;
     let mut tally = [0u64; 21];
-    replay(fd, &mut tally);
-    libc::close(fd);
-    replay::show_all(&tally);
+    replay(&mut file, &mut tally)?;
+    replay::show_all(&rt, &tally)
 }

@@ -1,71 +1,78 @@
 // Writes some lists in each format by `write_and_read` and prints what comes back: lengths, counts, label and points, or the refusal.
 #![tactic(auto)]
 
-use libc::STDOUT_FILENO;
 use read_header::part;
 use rules::RoundTripAnswer;
+use std::io;
 use stitch_box::{label, write_and_read, write_bound};
 
-fn text(s: &[u8]) {
-    io::write_all(STDOUT_FILENO, s);
+fn text(out: &impl Print, s: &[u8]) -> io::Result<()> {
+    out.write_all(s)
 }
 
 // A name and a number.
-fn number(name: &[u8], n: u64) {
-    text(name);
-    io::print_decimal(STDOUT_FILENO, n);
+fn number(out: &impl Print, name: &[u8], n: u64) -> io::Result<()> {
+    text(out, name)?;
+    out.print(n)
 }
 
-fn signed(z: i32) {
+fn signed(out: &impl Print, z: i32) -> io::Result<()> {
     let w = z as i64;
     if w < 0 {
-        number(b" -", (0 - w) as u64);
-        return;
+        return number(out, b" -", (0 - w) as u64);
     }
-    number(b" ", w as u64);
+    number(out, b" ", w as u64)
 }
 
 // The first n cells.
-fn cells(places: &[i32], n: usize) {
+fn cells(out: &impl Print, places: &[i32], n: usize) -> io::Result<()> {
     let mut i = 0;
     while i < n {
         if places.len() <= i {
-            return;
+            return Ok(());
         }
-        signed(places[i]);
+        signed(out, places[i])?;
         i += 1;
     }
+    Ok(())
 }
 
 // What came back: of the file its first `len` bytes, of the places two for each point.
-fn show(ext: &[u8], file: &[u8], places: &[i32], answer: RoundTripAnswer) {
-    text(ext);
+fn show(
+    out: &impl Print,
+    ext: &[u8],
+    file: &[u8],
+    places: &[i32],
+    answer: RoundTripAnswer,
+) -> io::Result<()> {
+    text(out, ext)?;
     match answer {
         RoundTripAnswer::NotWritten(why) => number(
+            out,
             b": not written, ",
             write_refusals::number(why) as u64,
-        ),
+        )?,
         RoundTripAnswer::NotRead(len, why) => {
-            number(b": written ", len as u64);
-            number(b", not read, ", write_refusals::number(why) as u64);
+            number(out, b": written ", len as u64)?;
+            number(out, b", not read, ", write_refusals::number(why) as u64)?;
         }
         RoundTripAnswer::ReadBack(len, c) => {
-            number(b": written ", len as u64);
-            number(b", points ", c.points as u64);
-            number(b" runs ", c.runs as u64);
-            number(b" blocks ", c.blocks as u64);
-            number(b" cuts ", c.cuts as u64);
-            text(b" [");
-            text(label(ext, part(file, 0, len)));
-            text(b"]");
-            cells(places, 2 * (c.points as usize));
+            number(out, b": written ", len as u64)?;
+            number(out, b", points ", c.points as u64)?;
+            number(out, b" runs ", c.runs as u64)?;
+            number(out, b" blocks ", c.blocks as u64)?;
+            number(out, b" cuts ", c.cuts as u64)?;
+            text(out, b" [")?;
+            text(out, label(ext, part(file, 0, len)))?;
+            text(out, b"]")?;
+            cells(out, places, 2 * (c.points as usize))?;
         }
     }
-    text(b"\n");
+    text(out, b"\n")
 }
 
 // A list in two colours, whose first stitch goes from (10, 10) to (`far`, 10).
-fn round_trip(ext: &[u8], far: i32, places: &mut [i32]) {
+fn round_trip(out: &impl Print, ext: &[u8], far: i32, places: &mut [i32]) -> io::Result<()> {
     let xs = [10, far, far, far, far, far, -20, -20, 0, 0];
     let ys = [10, 10, -30, -30, -30, -5, -5, 15, 15, 15];
     let kinds = [1, 0, 0, 2, 3, 1, 0, 1, 0, 4];
@@ -85,27 +92,27 @@ fn round_trip(ext: &[u8], far: i32, places: &mut [i32]) {
         &mut runs,
         &mut blocks,
     );
-    show(ext, &file, places, answer);
+    show(out, ext, &file, places, answer)
 }
 
 // An accepted list, the same with too little room for its places, and one with a step past the limits of all formats but VP3.
-fn try_format(ext: &[u8]) {
-    text(ext);
-    number(b": at most ", write_bound(ext, 10, 2) as u64);
-    text(b" bytes\n");
+fn try_format(out: &impl Print, ext: &[u8]) -> io::Result<()> {
+    text(out, ext)?;
+    number(out, b": at most ", write_bound(ext, 10, 2) as u64)?;
+    text(out, b" bytes\n")?;
     let mut places = [0i32; 32];
-    round_trip(ext, 60, &mut places);
+    round_trip(out, ext, 60, &mut places)?;
     let mut three = [0i32; 3];
-    round_trip(ext, 60, &mut three);
-    round_trip(ext, 2070, &mut places);
+    round_trip(out, ext, 60, &mut three)?;
+    round_trip(out, ext, 2070, &mut places)
 }
 
-fn main() {
-    try_format(b"txt");
-    try_format(b"PES");
-    try_format(b"pec");
-    try_format(b"dst");
-    try_format(b"exp");
-    try_format(b"jef");
-    try_format(b"vp3");
+fn main(rt: HostRuntime) -> io::Result<()> {
+    try_format(&rt, b"txt")?;
+    try_format(&rt, b"PES")?;
+    try_format(&rt, b"pec")?;
+    try_format(&rt, b"dst")?;
+    try_format(&rt, b"exp")?;
+    try_format(&rt, b"jef")?;
+    try_format(&rt, b"vp3")
 }

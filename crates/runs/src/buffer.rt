@@ -1,16 +1,25 @@
-// Standard output by way of a buffer, whose first `at` bytes are not written yet. A function that puts bytes answers the next `at`.
+// Standard output by way of a buffer, whose first `at` bytes are not written yet. A function that puts bytes answers the next `at`. After a
+// write that failed no more is written: `told` has the error.
 ghost use Rattle.std.specs.Prelude.{◌≤◌};
 
-use libc::STDOUT_FILENO;
+use std::io;
+use std::io::Stdout;
 
-pub type Buffer = [u8; 65536];
+#[derive(Drop)]
+pub struct Buffer {
+    pub bytes: [u8; 65536],
+    pub to: Stdout,
+    pub told: io::Result<()>,
+}
 
 // Writes the first `at` bytes.
-pub fn flush(out: &Buffer, at: usize)
+pub fn flush(out: &mut Buffer, at: usize)
     requires { at ≤ 65536 }
 {
-    let bytes: &[u8] = out;
-    io::write_all(STDOUT_FILENO, &bytes[..at]);
+    if out.told.is_ok() {
+        let bytes: &[u8] = &out.bytes;
+        out.told = out.to.write_all(&bytes[..at]);
+    }
 }
 
 // Puts a byte. A full buffer is written first.
@@ -19,11 +28,11 @@ pub fn put_byte(out: &mut Buffer, at: usize, b: u8) -> usize
     ensures { result ≤ 65536 }
 {
     if at < 65536 {
-        out[at] = b;
+        out.bytes[at] = b;
         return at + 1;
     }
     flush(out, at);
-    out[0] = b;
+    out.bytes[0] = b;
     1
 }
 
@@ -45,7 +54,6 @@ pub fn put_decimal(out: &mut Buffer, at: usize, n: u64) -> usize
     requires { at ≤ 65536 }
     ensures { result ≤ 65536 }
 {
-    let mut digits = [0u8; 20];
-    let k = io::decimal(n, &mut digits);
-    put_text(out, at, &digits[..k])
+    let mut digits = itoa::Buffer::new();
+    put_text(out, at, digits.format(n).as_bytes())
 }

@@ -5,11 +5,13 @@ mod buffer;
 mod show;
 
 ghost use Rattle.std.specs.Prelude.{ℕ, ◌≤◌, ◌<◌, ◌≡◌, length, get_or};
+ghost use Rattle.std.specs.Io.{ReadsAtMost};
 
 use buffer::Buffer;
 use formats::extension_of;
-use libc::STDIN_FILENO;
 use rules::{Extension, ReadAnswer, Refusal};
+use std::io;
+use std::io::Read;
 
 // Where the first line ends: at its newline, or where the input ends.
 fn line_end(input: &[u8]) -> usize
@@ -69,12 +71,32 @@ fn split(out: &mut Buffer, input: &[u8]) -> usize
     answer(out, &input[..end], &input[start..])
 }
 
+// Reads to the front of a buffer, until it is full or the input ends.
+fn read_full<R: Read>(input: &mut R, buf: &mut [u8]) -> io::Result<usize>
+    ensures { ReadsAtMost result buf.new }
+{
+    let mut done = 0;
+    while done < buf.len() {
+        let n = input.read(&mut buf[done..])?;
+        if n == 0 {
+            break;
+        }
+        done += n;
+    }
+    Ok(done)
+}
+
 // The input buffer holds three bytes of extension, a newline and one byte more than a file may have. Of
 // more input the answer is known: a longer extension is no format's, or the file is too long.
-fn main() {
+fn main(rt: HostRuntime) -> io::Result<()> {
     let mut input = [0u8; 65541];
-    let n = io::read_full(STDIN_FILENO, &mut input);
-    let mut out = [0u8; 65536];
+    let n = read_full(&mut rt.stdin(), &mut input)?;
+    let mut out = Buffer {
+        bytes: [0u8; 65536],
+        to: rt.stdout(),
+        told: Ok(()),
+    };
     let at = split(&mut out, &input[..n]);
-    buffer::flush(&out, at);
+    buffer::flush(&mut out, at);
+    out.told
 }

@@ -4,9 +4,13 @@
 
 ghost use Rattle.std.specs.Prelude.{◌≤◌};
 
-use command_line::{FileAnswer, argument, extension, read_file, refused, replace_file, usage};
+use command_line::{
+    FileAnswer, argument, extension, is_given, read_file, refused, replace_file, usage,
+};
 use formats::extension_of;
 use rules::{Extension, ImportAnswer, Refusal, WriteAnswer};
+use std::random::RandomSource;
+use std::rt::Files;
 use stitch_box::{import_job, job_name};
 
 // A count as a number of cells that there are. No answer of a call is cut by this.
@@ -17,7 +21,9 @@ fn at_most(n: usize, cells: usize) -> usize
 }
 
 // Writes a list as OUT, by way of a buffer.
-fn write(
+fn write<R: Files + RandomSource>(
+    rt: &R,
+    err: &impl Print,
     out: &[u8],
     name: &[u8],
     xs: &[i32],
@@ -30,14 +36,20 @@ fn write(
     match answer {
         WriteAnswer::Written(n, _) => {
             let end = at_most(n, file.len());
-            replace_file(out, &file[..end]);
+            replace_file(rt, err, out, &file[..end]);
         }
-        WriteAnswer::Unwritten(why) => refused(why),
+        WriteAnswer::Unwritten(why) => refused(err, why),
     }
 }
 
 // Imports a job and writes it as OUT. The buffers hold any list that is accepted.
-fn convert(job: &[u8], out: &[u8], file: &mut [u8]) {
+fn convert<R: Files + RandomSource>(
+    rt: &R,
+    err: &impl Print,
+    job: &[u8],
+    out: &[u8],
+    file: &mut [u8],
+) {
     let mut xs = [0i32; 65535];
     let mut ys = [0i32; 65535];
     let mut kinds = [0u8; 65535];
@@ -48,6 +60,8 @@ fn convert(job: &[u8], out: &[u8], file: &mut [u8]) {
             let n = at_most(c.commands as usize, 65535);
             let t = at_most(c.thread_bytes as usize, 765);
             write(
+                rt,
+                err,
                 out,
                 job_name(job),
                 &xs[..n],
@@ -57,61 +71,76 @@ fn convert(job: &[u8], out: &[u8], file: &mut [u8]) {
                 file,
             );
         }
-        ImportAnswer::NotImported(why) => refused(why),
+        ImportAnswer::NotImported(why) => refused(err, why),
     }
 }
 
-fn read_and_convert(job: &[u8], out: &[u8], bytes: &mut [u8], file: &mut [u8]) {
-    let answer = read_file(job, bytes);
+fn read_and_convert<R: Files + RandomSource>(
+    rt: &R,
+    err: &impl Print,
+    job: &[u8],
+    out: &[u8],
+    bytes: &mut [u8],
+    file: &mut [u8],
+) {
+    let answer = read_file(rt, err, job, bytes);
     let FileAnswer::Read(n) = answer else {
         return;
     };
-    convert(&bytes[..n], out, file);
+    convert(rt, err, &bytes[..n], out, file);
 }
 
 // The prover takes arrays as long as these as slices only through a reference.
-fn lend(job: &[u8], out: &[u8], bytes: &mut [u8; 2097153], file: &mut [u8; 1762916]) {
-    read_and_convert(job, out, bytes, file);
+fn lend<R: Files + RandomSource>(
+    rt: &R,
+    err: &impl Print,
+    job: &[u8],
+    out: &[u8],
+    bytes: &mut [u8; 2097153],
+    file: &mut [u8; 1762916],
+) {
+    read_and_convert(rt, err, job, out, bytes, file);
 }
 
 // The buffer of a job has a byte more than a job may have, so that one that is too long is told; that of a file holds any.
-fn run(job: &[u8], out: &[u8]) {
+fn run<R: Files + RandomSource>(rt: &R, err: &impl Print, job: &[u8], out: &[u8]) {
     let mut bytes = [0u8; 2097153];
     let mut file = [0u8; 1762916];
-    lend(job, out, &mut bytes, &mut file);
+    lend(rt, err, job, out, &mut bytes, &mut file);
 }
 
 // The extension is asked before the job is opened.
-fn write_job(job: &[u8], out: &[u8]) {
+fn write_job<R: Files + RandomSource>(rt: &R, err: &impl Print, job: &[u8], out: &[u8]) {
     let named = extension_of(extension(out));
     match named {
-        Extension::Of(_) => run(job, out),
-        Extension::Unknown => refused(Refusal::UnknownExtension),
+        Extension::Of(_) => run(rt, err, job, out),
+        Extension::Unknown => refused(err, Refusal::UnknownExtension),
     }
 }
 
-fn wrong_arguments() {
-    usage(b"write_job JOB OUT");
+fn wrong_arguments(err: &impl Print) {
+    usage(err, b"write_job JOB OUT");
 }
 
-fn main() {
-    let mut job = io::buffer();
-    let mut out = io::buffer();
-    let first = argument(1, &mut job);
-    let second = argument(2, &mut out);
-    if os::arg_count() != 3 {
-        wrong_arguments();
+fn main(rt: HostRuntime) {
+    let err = rt.stderr();
+    let mut job = [0u8; 4096];
+    let mut out = [0u8; 4096];
+    let first = argument(&rt, 1, &mut job);
+    let second = argument(&rt, 2, &mut out);
+    if is_given(&rt, 3) {
+        wrong_arguments(&err);
         return;
     }
     if !first.whole {
-        wrong_arguments();
+        wrong_arguments(&err);
         return;
     }
     if !second.whole {
-        wrong_arguments();
+        wrong_arguments(&err);
         return;
     }
     let n = first.len;
     let m = second.len;
-    write_job(&job[..n], &out[..m]);
+    write_job(&rt, &err, &job[..n], &out[..m]);
 }

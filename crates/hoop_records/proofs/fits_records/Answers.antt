@@ -1,5 +1,4 @@
 -- Each row by its own loop.
-use borrow.Author.Rules.{rules}
 use Rattle.hoop_records.proofs.fits_records.Goals as goal
 
 pub returns-in-Pec : goal.returns-in-Pec

@@ -7,7 +7,6 @@ use Rattle.rules.specs.Hoop.{in_hoop}
 use Rattle.hoop_records.specs.Looks.{starts_in, sewn, Leads}
 use Rattle.hoop_records.specs.declared.looks.Look.{Look}
 use Rattle.hoop_records.proofs.Sums.{on-there}
-use borrow.Author.Rules.{rules}
 use Rattle.hoop_records.proofs.looks.sew_two.Goals as goal
 
 pub returns-in_default : goal.returns-in_default

@@ -13,7 +13,6 @@ use Rattle.hoop_records.specs.Looks.{stepped, Leads}
 use Rattle.hoop_records.specs.Rows.{Looks}
 use Rattle.hoop_records.specs.declared.looks.Seen.TheVariants.{On}
 use Rattle.hoop_records.proofs.Turns.{can-step, looks-sewn, looks-jump, looks-change, looks-end}
-use borrow.Author.Rules.{rules}
 use Rattle.hoop_records.proofs.pairs.look_control.Goals as goal
 
 -- a byte of the file is one of the table's indices
@@ -23,3 +22,94 @@ overflow_cast-k c = omega (arith, c.shared_slice_known-2-1.given (c.args.w.at + 
 pub bounds-table-c : goal.bounds-table-c
 bounds-table-c c =
     omega (arith, c.shared_slice_known-2-1.given (c.args.w.at + 1), c.requires.kinds.long)
+
+pub sew-requires : goal.sew-requires
+sew-requires c =
+    let control : let a = c.args in
+    let k = get_or a.table.now (get_or a.bytes.now (a.w.at + 1) 0) 0 in
+    Control a.jef a.bytes.now a.w.at k (read c.step_x-dx.result) (read c.step_y-dy.result) = let u = c.step_x-dx in
+    record {
+      room = omega (arith, c.requires.at_in_bounds);
+      mark = c.requires.at_value;
+      kind = c.requires.kinds.kind _ (omega (arith, c.shared_slice_known-2-1.given (c.args.w.at + 1)));
+      dx = reads u.type_inv u.ensures;
+      dy = reads c.step_y-dy.type_inv c.step_y-dy.ensures;
+    } in
+    can-step (pair_row c.args.jef) c.requires.looking (is-stitch control c.if-k-eq0.true)
+
+pub returns-then-k-eq0 : goal.returns-then-k-eq0
+returns-then-k-eq0 c =
+    let control : let a = c.args in
+    let k = get_or a.table.now (get_or a.bytes.now (a.w.at + 1) 0) 0 in
+    Control a.jef a.bytes.now a.w.at k (read c.step_x-dx.result) (read c.step_y-dy.result) = let u = c.step_x-dx in
+    record {
+      room = omega (arith, c.requires.at_in_bounds);
+      mark = c.requires.at_value;
+      kind = c.requires.kinds.kind _ (omega (arith, c.shared_slice_known-2-1.given (c.args.w.at + 1)));
+      dx = reads u.type_inv u.ensures;
+      dy = reads c.step_y-dy.type_inv c.step_y-dy.ensures;
+    } in
+    rw c.sew.ensures (looks-sewn (pair_row c.args.jef) c.requires.looking (is-stitch control c.if-k-eq0.true))
+
+pub returns-then-k-eq3 : goal.returns-then-k-eq3
+returns-then-k-eq3 c =
+    let control : let a = c.args in
+    let k = get_or a.table.now (get_or a.bytes.now (a.w.at + 1) 0) 0 in
+    Control a.jef a.bytes.now a.w.at k (read c.step_x-dx.result) (read c.step_y-dy.result) = let u = c.step_x-dx in
+    record {
+      room = omega (arith, c.requires.at_in_bounds);
+      mark = c.requires.at_value;
+      kind = c.requires.kinds.kind _ (omega (arith, c.shared_slice_known-2-1.given (c.args.w.at + 1)));
+      dx = reads u.type_inv u.ensures;
+      dy = reads c.step_y-dy.type_inv c.step_y-dy.ensures;
+    } in
+    let e = is-end control c.if-k-eq3.true in
+    rw c.pass_to.ensures (looks-end (pair_row c.args.jef) c.requires.looking (omega (arith, c.requires.at_in_bounds)) e)
+
+pub hop-requires : goal.hop-requires
+hop-requires c =
+    let control : let a = c.args in
+    let k = get_or a.table.now (get_or a.bytes.now (a.w.at + 1) 0) 0 in
+    Control a.jef a.bytes.now a.w.at k (read c.step_x-dx.result) (read c.step_y-dy.result) = let u = c.step_x-dx in
+    record {
+      room = omega (arith, c.requires.at_in_bounds);
+      mark = c.requires.at_value;
+      kind = c.requires.kinds.kind _ (omega (arith, c.shared_slice_known-2-1.given (c.args.w.at + 1)));
+      dx = reads u.type_inv u.ensures;
+      dy = reads c.step_y-dy.type_inv c.step_y-dy.ensures;
+    } in
+    let hops : let a = c.args in
+    let x = read c.step_x-dx.result in let y = read c.step_y-dy.result in
+    Leads a.w x y 4 × Looks (pair_row a.jef) a.h a.bytes.now a.w (On (stepped false a.w x y 4)) = let a = c.args in
+    let g = control in
+    let l = c.requires.looking in
+    let k = get_or a.table.now (get_or a.bytes.now (a.w.at + 1) 0) 0 in
+    by-test (eqb k 2)
+    (λ t. let e = is-change g (eqb-true k 2 t) in (can-step (pair_row a.jef) l e, looks-change (pair_row a.jef) l e))
+    (λ t. let e = is-jump g (omega (arith, few g, eqb-false k 2 t, c.if-k-eq0.false, c.if-k-eq3.false)) in
+    (can-step (pair_row a.jef) l e, looks-jump (pair_row a.jef) l e)) in
+    hops.0
+
+pub returns : goal.returns
+returns c =
+    let control : let a = c.args in
+    let k = get_or a.table.now (get_or a.bytes.now (a.w.at + 1) 0) 0 in
+    Control a.jef a.bytes.now a.w.at k (read c.step_x-dx.result) (read c.step_y-dy.result) = let u = c.step_x-dx in
+    record {
+      room = omega (arith, c.requires.at_in_bounds);
+      mark = c.requires.at_value;
+      kind = c.requires.kinds.kind _ (omega (arith, c.shared_slice_known-2-1.given (c.args.w.at + 1)));
+      dx = reads u.type_inv u.ensures;
+      dy = reads c.step_y-dy.type_inv c.step_y-dy.ensures;
+    } in
+    let hops : let a = c.args in
+    let x = read c.step_x-dx.result in let y = read c.step_y-dy.result in
+    Leads a.w x y 4 × Looks (pair_row a.jef) a.h a.bytes.now a.w (On (stepped false a.w x y 4)) = let a = c.args in
+    let g = control in
+    let l = c.requires.looking in
+    let k = get_or a.table.now (get_or a.bytes.now (a.w.at + 1) 0) 0 in
+    by-test (eqb k 2)
+    (λ t. let e = is-change g (eqb-true k 2 t) in (can-step (pair_row a.jef) l e, looks-change (pair_row a.jef) l e))
+    (λ t. let e = is-jump g (omega (arith, few g, eqb-false k 2 t, c.if-k-eq0.false, c.if-k-eq3.false)) in
+    (can-step (pair_row a.jef) l e, looks-jump (pair_row a.jef) l e)) in
+    rw c.hop.ensures hops.1

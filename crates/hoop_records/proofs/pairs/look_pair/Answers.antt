@@ -7,7 +7,6 @@ use Rattle.read_records.specs.Firsts.{first_record_of, pair_row}
 use Rattle.read_passes.proofs.Found.{pair-first, pair-second}
 use Rattle.read_passes.proofs.Turns.{read, reads}
 use Rattle.hoop_records.proofs.Turns.{can-step, can-two, looks-sewn, looks-two}
-use borrow.Author.Rules.{rules}
 use Rattle.hoop_records.proofs.pairs.look_pair.Goals as goal
 
 pub sew-requires : goal.sew-requires

@@ -1,14 +1,9 @@
 -- One turn after the other, by `Going`; then the rest.
-use Prim.Native.Nat.{◌-◌}
-use mathlib.Core.Path.{◌≡◌, sym, ◌∙◌}
+use mathlib.Core.Path.{sym, ◌∙◌}
 use native.Mathlib.Omega.{arith}
-use lib.ListN.{length}
 use Rattle.read_records.specs.declared.Row.TheVariants.{Pec}
-use Rattle.hoop_records.specs.Rows.{Looks}
-use Rattle.hoop_records.specs.declared.looks.Seen.{Seen}
 use Rattle.hoop_records.proofs.Events.{going_start, going_on, going-out, going-rest}
-use Rattle.hoop_records.proofs.Turns.{Rows, front-looking, front-all}
-use borrow.Author.Rules.{rules}
+use Rattle.hoop_records.proofs.Turns.{front-looking, front-all}
 use Rattle.hoop_records.proofs.steps.fits_steps.Goals as goal
 
 pub last_turn-end-requires : goal.last_turn-end-requires
@@ -23,6 +18,18 @@ slice_bounds-look_steps-end c = sym c.pec_steps-steps.ensures.size
 
 pub look_steps-requires : goal.look_steps-requires
 look_steps-requires c = record { pec_steps = c.pec_steps-steps.ensures; at_in_bounds = c.last_turn-end.ensures c.loop-w.w.at c.loop-w-test.true; looking = c.loop-w.invariant.looking }
+
+pub returns-in_default : goal.returns-in_default
+returns-in_default c =
+    going-out c.loop-w.invariant (rw c.in_default.is at c.look_steps.ensures) ∙ front-all _ _ _ c.look_from-w.ensures
+
+pub loop-w-smaller : goal.loop-w-smaller
+loop-w-smaller c =
+    omega (arith, (rw c.in-On.is at c.look_steps.ensures).onward.1, c.last_turn-end.ensures c.loop-w.w.at c.loop-w-test.true)
+
+pub loop-w-preserved : goal.loop-w-preserved
+loop-w-preserved c =
+    let k = (rw c.in-On.is at c.look_steps.ensures) in going_on c.loop-w.invariant k k.onward.0
 
 pub fits_rest-requires : goal.fits_rest-requires
 fits_rest-requires c = c.loop-w.invariant.looking

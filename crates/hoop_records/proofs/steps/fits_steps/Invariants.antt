@@ -1,14 +1,8 @@
 -- One turn after the other, by `Going`; then the rest.
 use Prim.Native.Nat.{◌-◌}
-use mathlib.Core.Path.{◌≡◌, sym, ◌∙◌}
-use native.Mathlib.Omega.{arith}
 use lib.ListN.{length}
 use Rattle.read_records.specs.declared.Row.TheVariants.{Pec}
-use Rattle.hoop_records.specs.Rows.{Looks}
-use Rattle.hoop_records.specs.declared.looks.Seen.{Seen}
-use Rattle.hoop_records.proofs.Events.{going_start, going_on, going-out, going-rest}
-use Rattle.hoop_records.proofs.Turns.{Rows, front-looking, front-all}
-use borrow.Author.Rules.{rules}
+use Rattle.hoop_records.proofs.Turns.{Rows}
 use Rattle.hoop_records.proofs.steps.fits_steps.Given as goal
 
 abbrev pub invariant-loop-w : goal.invariant-loop-w

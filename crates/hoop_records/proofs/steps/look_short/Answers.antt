@@ -8,7 +8,6 @@ use Rattle.read_records.specs.declared.Row.TheVariants.{Pec}
 use Rattle.read_passes.proofs.Found.{Short, here-short}
 use Rattle.read_passes.proofs.Turns.{read, reads}
 use Rattle.hoop_records.proofs.Turns.{can-two, looks-two}
-use borrow.Author.Rules.{rules}
 use Rattle.hoop_records.proofs.steps.look_short.Goals as goal
 
 pub sew_two-requires : goal.sew_two-requires

@@ -8,7 +8,6 @@ use Rattle.read_records.specs.declared.Row.TheVariants.{Pec}
 use Rattle.read_passes.proofs.Found.{ShortLong, here-short-long}
 use Rattle.read_passes.proofs.Turns.{read, reads}
 use Rattle.hoop_records.proofs.Turns.{can-two, looks-two}
-use borrow.Author.Rules.{rules}
 use Rattle.hoop_records.proofs.steps.look_short_long.Goals as goal
 
 pub sew_two-requires : goal.sew_two-requires
@@ -17,16 +16,11 @@ sew_two-requires c =
     let one : let a = c.args in
     first_record_of Pec (drop a.w.at a.bytes.now)
     ≡ StitchBy (read c.first_of-dx.result)
-    (read c.pec_step-dy.result) 3 = let i = c.before.before.before.before.before in
-    let j = i.before.before.before in
-    let m = j.before.before in
-    let u = c.first_of-dx in
+    (read c.pec_step-dy.result) 3 = let u = c.first_of-dx in
     let v = c.pec_step-dy in
     rw (reads u.type_inv u.ensures, reads v.type_inv v.ensures) both.one in
     let two : let a = c.args in
-    first_record_of Pec (drop (a.w.at + 3) a.bytes.now) ≡ StitchBy (read c.first_of-ex.result) (read c.pec_step-ey.result) 3 = let i = c.before.before.before in
-    let j = i.before.before.before.before.before.before.before in
-    let u = c.first_of-ex in
+    first_record_of Pec (drop (a.w.at + 3) a.bytes.now) ≡ StitchBy (read c.first_of-ex.result) (read c.pec_step-ey.result) 3 = let u = c.first_of-ex in
     let v = c.pec_step-ey in
     rw (reads u.type_inv u.ensures, reads v.type_inv v.ensures) both.two in
     can-two Pec c.requires.looking one two
@@ -37,16 +31,11 @@ returns c =
     let one : let a = c.args in
     first_record_of Pec (drop a.w.at a.bytes.now)
     ≡ StitchBy (read c.first_of-dx.result)
-    (read c.pec_step-dy.result) 3 = let i = c.before.before.before.before.before in
-    let j = i.before.before.before in
-    let m = j.before.before in
-    let u = c.first_of-dx in
+    (read c.pec_step-dy.result) 3 = let u = c.first_of-dx in
     let v = c.pec_step-dy in
     rw (reads u.type_inv u.ensures, reads v.type_inv v.ensures) both.one in
     let two : let a = c.args in
-    first_record_of Pec (drop (a.w.at + 3) a.bytes.now) ≡ StitchBy (read c.first_of-ex.result) (read c.pec_step-ey.result) 3 = let i = c.before.before.before in
-    let j = i.before.before.before.before.before.before.before in
-    let u = c.first_of-ex in
+    first_record_of Pec (drop (a.w.at + 3) a.bytes.now) ≡ StitchBy (read c.first_of-ex.result) (read c.pec_step-ey.result) 3 = let u = c.first_of-ex in
     let v = c.pec_step-ey in
     rw (reads u.type_inv u.ensures, reads v.type_inv v.ensures) both.two in
     rw c.sew_two.ensures (looks-two Pec c.requires.looking one two)

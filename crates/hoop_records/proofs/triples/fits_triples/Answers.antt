@@ -1,14 +1,9 @@
 -- One turn after the other, by `Going`; then the rest.
-use Prim.Native.Nat.{◌-◌}
-use mathlib.Core.Path.{◌≡◌, sym, ◌∙◌}
+use mathlib.Core.Path.{sym, ◌∙◌}
 use native.Mathlib.Omega.{arith}
-use lib.ListN.{length}
 use Rattle.read_records.specs.declared.Row.TheVariants.{Dst}
-use Rattle.hoop_records.specs.Rows.{Looks}
-use Rattle.hoop_records.specs.declared.looks.Seen.{Seen}
 use Rattle.hoop_records.proofs.Events.{going_start, going_on, going-out, going-rest}
-use Rattle.hoop_records.proofs.Turns.{Rows, front-looking, front-all}
-use borrow.Author.Rules.{rules}
+use Rattle.hoop_records.proofs.Turns.{front-looking, front-all}
 use Rattle.hoop_records.proofs.triples.fits_triples.Goals as goal
 
 pub last_turn-end-requires : goal.last_turn-end-requires
@@ -26,6 +21,18 @@ slice_bounds-look_triple-end-in-loop-w c = sym c.dst_steps-ys.ensures.size
 
 pub look_triple-requires : goal.look_triple-requires
 look_triple-requires c = record { dst_steps = (c.dst_steps-xs.ensures, c.dst_steps-ys.ensures); at_in_bounds = c.last_turn-end.ensures c.loop-w.w.at c.loop-w-test.true; looking = c.loop-w.invariant.looking }
+
+pub returns-in_default : goal.returns-in_default
+returns-in_default c =
+    going-out c.loop-w.invariant (rw c.in_default.is at c.look_triple.ensures) ∙ front-all _ _ _ c.look_from-w.ensures
+
+pub loop-w-smaller : goal.loop-w-smaller
+loop-w-smaller c =
+    omega (arith, (rw c.in-On.is at c.look_triple.ensures).onward.1, c.last_turn-end.ensures c.loop-w.w.at c.loop-w-test.true)
+
+pub loop-w-preserved : goal.loop-w-preserved
+loop-w-preserved c =
+    let k = (rw c.in-On.is at c.look_triple.ensures) in going_on c.loop-w.invariant k k.onward.0
 
 pub fits_rest-requires : goal.fits_rest-requires
 fits_rest-requires c = c.loop-w.invariant.looking

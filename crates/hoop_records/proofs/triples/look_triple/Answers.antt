@@ -12,7 +12,6 @@ use Rattle.hoop_records.specs.Looks.{stepped, Leads}
 use Rattle.hoop_records.specs.Rows.{Looks}
 use Rattle.hoop_records.specs.declared.looks.Seen.TheVariants.{On}
 use Rattle.hoop_records.proofs.Turns.{can-step, looks-sewn, looks-jump, looks-change, looks-end}
-use borrow.Author.Rules.{rules}
 use Rattle.hoop_records.proofs.triples.look_triple.Goals as goal
 
 pub sew-requires : goal.sew-requires
