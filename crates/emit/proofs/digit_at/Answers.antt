@@ -19,6 +19,6 @@ returns-then-v-p c = let a = c.args in rw
 
 pub returns : goal.returns
 unfolding digit_at
-returns c =    let a = c.args in
+returns c = let a = c.args in
     let t = tens a.k c.requires in
     rw (lt-ltb 0 a.k (omega (arith, c.if-k-eq0.false)), le-ltb a.v (10 ^ a.k) (rw (← t) c.if-v-p.false), t)

@@ -38,7 +38,7 @@ module _ {d₀ whole d coming : List ℕ} {base n : ℕ} (k : ℕ) (w : Writing 
   last p = writing-done {coming = []} (writing_more w all p) refl
 
 pub loop-i-init : goal.loop-i-init
-loop-i-init c =    
+loop-i-init c =
     let a = c.args in
     let p = within a.low a.high in
     rw (← start p a.most a.name.now c.requires.0)
@@ -46,18 +46,16 @@ loop-i-init c =
     (omega (arith, c.requires, sixteen p a.most a.name.now c.requires.0)))
 
 pub loop-i-preserved-then-not-stays : goal.loop-i-preserved-then-not-stays
-loop-i-preserved-then-not-stays c =    let loop-test = c.loop-i-test in let l = c.loop-i in
-    
+loop-i-preserved-then-not-stays c = let loop-test = c.loop-i-test in let l = c.loop-i in
     let a = c.args in
     rw (← name-skip (within a.low a.high) (16 - a.most) l.left l.i a.name.now loop-test.true
     (sym c.stays.ensures ∙ c.if-not-stays.true)) l.invariant
 
 pub loop-i-preserved : goal.loop-i-preserved
-loop-i-preserved c =    let if2 = c.if-not-stays in let stays' = c.stays in
+loop-i-preserved c = let if2 = c.if-not-stays in let stays' = c.stays in
     let if1 = c.if-left-eq0 in
     let loop-test = c.loop-i-test in
     let l = c.loop-i in
-    
     let a = c.args in
     let s = a.name.now in
     writing_more {vs = get_or s l.i 0 ∷ []} l.invariant
@@ -66,7 +64,6 @@ loop-i-preserved c =    let if2 = c.if-not-stays in let stays' = c.stays in
     c.put-to.ensures
 
 pub returns : goal.returns
-returns c =    let loop-test = c.loop-i-test in let l = c.loop-i in
-    
+returns c = let loop-test = c.loop-i-test in let l = c.loop-i in
     let a = c.args in
     last (16 - a.most + l.left) l.invariant (name-end (within a.low a.high) (16 - a.most) l.left l.i a.name.now loop-test.false) c.put_times-2.ensures

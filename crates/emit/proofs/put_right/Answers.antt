@@ -23,14 +23,13 @@ loop-left-init c = let a = c.args in (
 )
 
 pub put-to-requires : goal.put-to-requires
-put-to-requires c =    let loop = c.loop-left in 
+put-to-requires c = let loop = c.loop-left in
     let a = c.args in writing-room (digit_at (loop.left - 1) a.v ∷ []) (right (loop.left - 1) a.v) loop.invariant.0
     (right-more loop.left a.v c.loop-left-test.true)
 
 pub loop-left-preserved : goal.loop-left-preserved
-loop-left-preserved c =    let loop-test = c.loop-left-test in
+loop-left-preserved c = let loop-test = c.loop-left-test in
     let loop = c.loop-left in
-    
     let a = c.args in (
       writing_more {vs = digit_at (loop.left - 1) a.v ∷ []} loop.invariant.0 (right-more loop.left a.v loop-test.true)
           (rw c.digit_at.ensures at c.put-to.ensures),

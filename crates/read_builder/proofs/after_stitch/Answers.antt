@@ -6,7 +6,7 @@ use borrow.Author.Rules.{rules}
 use Rattle.read_builder.proofs.after_stitch.Goals as goal
 
 pub returns : goal.returns
-returns c =    
+returns c =
     let a = c.args in
     let w = may-open a.b.run in
     rw (c.opens-o.ensures, to_z-of_z c.ranges.x, to_z-of_z c.ranges.y, w.after, w.begun a.b.begun, w.adds a.b.points)

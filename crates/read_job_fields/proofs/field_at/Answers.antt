@@ -11,11 +11,11 @@ pub returns-in_default : goal.returns-in_default
 returns-in_default c = bad-tag _ _ _ c.requires (sym c.tag_at.ensures ∙ c.in_default.is)
 
 pub returns-in_default-length_at : goal.returns-in_default-length_at
-returns-in_default-length_at c =    
+returns-in_default-length_at c =
     bad-length _ _ _ c.requires (sym c.tag_at.ensures ∙ c.in-Is.is)
     (sym c.length_at.ensures ∙ c.in_default-length_at.is)
 
 pub returns : goal.returns
-returns c =    
+returns c =
     lies _ _ _ c.requires (sym c.tag_at.ensures ∙ c.in-Is.is)
     (sym c.length_at.ensures ∙ c.in-Is-length_at.is)

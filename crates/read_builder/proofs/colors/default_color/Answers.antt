@@ -19,5 +19,5 @@ right i v = eqb v (color_number (get_or defaults i (color 0 0 0)))
 
 pub returns : goal.returns
 unfolding entries right or_default defaults color_number
-returns c =    let k = c.args.k in
+returns c = let k = c.args.k in
     eqb→eq (get_or entries (k % 8) 0) (color_number (get_or defaults (k % 8) (color 0 0 0))) (at right entries 0 tt (k % 8) (mod-lt k (lit< tt)))
