@@ -1,10 +1,9 @@
 -- What a file's opening says, as an answer of `fits`. Assumes nothing.
 use Prim.Native.Nat.{ℕ}
-use mathlib.Core.Path.{◌≡◌, refl, sym, ap, ◌∙◌}
+use mathlib.Core.Path.{◌≡◌, refl, sym}
 use mathlib.Core.Bool.{Bool}
 use mathlib.Core.List.{List}
-use native.Mathlib.Omega.{arith}
-use lib.IntN.{ℤ, pos}
+use lib.IntN.{pos}
 use Rattle.rules.specs.Answers.{places}
 use Rattle.rules.specs.Files.{events_of, places_of, places_told, file_refusals, file_verdict}
 use Rattle.rules.specs.Hoop.{all_in_hoop, fits_answer, fits_told}
