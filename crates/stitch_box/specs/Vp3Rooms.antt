@@ -1,6 +1,6 @@
 -- VP3: how much is read of a file of n bytes. A step takes two bytes and is one event at most, and a block's fields make up for its change.
 -- Assumes nothing.
-use Rattle.std.specs.Prelude.{ℕ, zero, suc, ◌+◌, ◌*◌, ◌≤◌, ◌≡◌, List, [], ◌∷◌, ◌++◌, ℤ, pos, ◌+ℤ◌, length}
+use Rattle.std.specs.Prelude.{ℕ, zero, suc, ◌+◌, ◌*◌, ◌≤◌, List, [], ◌∷◌, ℤ, pos, ◌+ℤ◌, length}
 use Rattle.std.proofs.Common.{arith, length-append}
 use Rattle.rules.specs.Answers.{places, runs, blocks, start_of, run_of, block_of, points_after, begun_after}
 use Rattle.rules.specs.Limits.{block_cells_of}

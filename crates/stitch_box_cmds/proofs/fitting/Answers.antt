@@ -1,5 +1,5 @@
 -- By the test.
-use Rattle.std.proofs.Common.{arith, rules}
+use Rattle.std.proofs.Common.{arith}
 use borrow.Author.Tests.{lt-ltb, le-ltb}
 use Rattle.stitch_box_cmds.proofs.fitting.Goals as goal
 

@@ -1,10 +1,9 @@
 -- One more command is stored.
-use Rattle.std.proofs.Common.{◌≡◌, ◌<◌, ◌+◌, ◌∙◌, ap, length, take, get_or, arith, sym, ℤ, pos, ℕ, List}
+use Rattle.std.proofs.Common.{◌<◌, length, get_or, arith, pos}
 use borrow.Author.Rules.{rules}
 use mir.Facts.{to_z-of_z}
 use mir.Syntax.{w32}
 use mir.Val.{SFits}
-use Rattle.rules.specs.Promises.{xs_of, ys_of, kinds_of}
 use Rattle.rules.specs.declared.Cmd.{Cmd}
 use Rattle.stitch_box_cmds.proofs.Turns.{next_field, one_on}
 use Rattle.stitch_box_cmds.proofs.unpack.Goals as goal

@@ -1,6 +1,5 @@
 -- What the three calls say, together.
-use Rattle.std.proofs.Common.{arith, length-replicate, length}
-use borrow.Author.Rules.{rules}
+use Rattle.std.proofs.Common.{arith}
 use Rattle.stitch_box_cmds.proofs.Told.{told}
 use Rattle.stitch_box_cmds.proofs.write_cmds_as.Goals as goal
 

@@ -1,5 +1,5 @@
 -- By the test of the length.
-use Rattle.std.proofs.Common.{refl, arith, length-take}
+use Rattle.std.proofs.Common.{refl}
 use borrow.Author.Tests.{lt-ltb, le-ltb}
 use Rattle.stitch_box_cmds.proofs.write_front.Goals as goal
 
