@@ -97,6 +97,7 @@ pub extern "C" fn stitch_box_label(
 }
 
 // The number of an answer, 1 being put for yes: 0 and 1 or 0, or the refusal's number and 0.
+#[tactic(auto, unfolding(rules::specs::Hoop::fits_number, rules::specs::Hoop::fits_bit))]
 fn put_fits(answer: FitsAnswer, yes: &mut u32) -> u32
     ensures { (result ≡ fits_number answer) × (yes.new ≡ fits_bit answer) }
 {
