@@ -15,7 +15,7 @@ use Rattle.rules.specs.declared.Color.{Color}
 use Rattle.laws.specs.Tests.{by-test}
 use Rattle.laws.specs.Listing.{list-more, list-end}
 use Rattle.laws.specs.Threads.{thread_at, length-threads, thread-is}
-use Rattle.vp3.specs.Blocks.{between, first_record_of}
+use Rattle.vp3.specs.Blocks.{between, first_block_of}
 
 -- the blocks from command i on, none if i is past the end
 unfoldable pub blocks_at : List Cmd → ℕ → List (List Cmd)
@@ -49,11 +49,11 @@ cut (c ∷ cs) =
       },
     ))
 
-cut-first : (s : List Cmd) → Cut s (first_record_of (color_blocks s))
-unfolding first_record_of
+cut-first : (s : List Cmd) → Cut s (first_block_of (color_blocks s))
+unfolding first_block_of
 cut-first s =
     let r = cut s in
-    let e : first_record_of (color_blocks s) ≡ r.0 = ap first_record_of r.1.blocks in
+    let e : first_block_of (color_blocks s) ≡ r.0 = ap first_block_of r.1.blocks in
     rw e r.1
 
 -- ---- by index
@@ -66,7 +66,7 @@ drop-blocks (c ∷ cs) (suc i) j h = drop-blocks cs i j (le_of_suc-le-suc h) ∙
 
 -- the block from command i on
 abbrev pub first_at : List Cmd → ℕ → List Cmd
-first_at cs i = first_record_of (color_blocks (drop i cs))
+first_at cs i = first_block_of (color_blocks (drop i cs))
 
 pub blocks_start : (cs : List Cmd) → blocks_at cs 0 ≡ color_blocks cs
 unfolding blocks_at
@@ -102,17 +102,17 @@ module _ (cs : List Cmd) (i : ℕ) (h : i ≤ length cs) where
 -- ---- a scan
 
 pub first-end : (cs : List Cmd) (i : ℕ) → length cs ≤ i → first_at cs i ≡ []
-unfolding color_blocks first_record_of
+unfolding color_blocks first_block_of
 first-end cs i h = rw (list-end cs i h)
 
-first-onto : (c : Cmd) (bs : List (List Cmd)) → first_record_of (at_front c bs) ≡ c ∷ first_record_of bs
-unfolding at_front first_record_of
+first-onto : (c : Cmd) (bs : List (List Cmd)) → first_block_of (at_front c bs) ≡ c ∷ first_block_of bs
+unfolding at_front first_block_of
 first-onto c [] = refl
 first-onto c (b ∷ bs) = refl
 
 module _ (cs : List Cmd) (c : Cmd) (i : ℕ) (e : drop i cs ≡ c ∷ drop (i + 1) cs) where
   pub first-change : is_change (op_of c.kind) ≡ true → first_at cs i ≡ []
-  unfolding color_blocks first_record_of
+  unfolding color_blocks first_block_of
   first-change t = rw (e, t)
 
   pub first_more : is_change (op_of c.kind) ≡ false → first_at cs i ≡ c ∷ first_at cs (i + 1)

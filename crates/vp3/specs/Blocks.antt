@@ -27,9 +27,9 @@ pub record Known (xs ys : List ℤ) (kinds : List ℕ) : Type 0 where
   pub few : count changes (commands xs ys kinds) ≤ 254
 
 -- the first of some blocks
-unfoldable pub first_record_of : List (List Cmd) → List Cmd
-first_record_of [] = []
-first_record_of (b ∷ bs) = b
+unfoldable pub first_block_of : List (List Cmd) → List Cmd
+first_block_of [] = []
+first_block_of (b ∷ bs) = b
 
 -- the bytes of each block's stitches, the first block from (x, y)
 unfoldable pub lens_of : ℤ → ℤ → List (List Cmd) → List ℕ
@@ -47,8 +47,8 @@ sum (n ∷ ns) = n + sum ns
 
 -- the block from command `from` on, which starts at (x, y)
 pub record Scanned (cs : List Cmd) (from : ℕ) (x y : ℤ) (r : Scan) : Type 0 where
-  pub end : r.end ≡ from + length (first_record_of (color_blocks (drop from cs)))
-  pub len : r.len ≡ length (stitches_from x y (first_record_of (color_blocks (drop from cs))))
+  pub end : r.end ≡ from + length (first_block_of (color_blocks (drop from cs)))
+  pub len : r.len ≡ length (stitches_from x y (first_block_of (color_blocks (drop from cs))))
   pub within : r.end ≤ length cs
 
 -- a place in the range
@@ -66,8 +66,8 @@ pub record Left (xs ys : List ℤ) (kinds : List ℕ) (i : ℕ) (px py : ℤ) (l
 
 -- where the block ends, and the bytes of all its stitches
 pub record Rest (xs ys : List ℤ) (kinds : List ℕ) (i : ℕ) (px py : ℤ) (len : ℕ) (r : Scan) : Type 0 where
-  pub end : r.end ≡ i + length (first_record_of (color_blocks (drop i (commands xs ys kinds))))
-  pub len_is : r.len ≡ len + length (stitches_from px py (first_record_of (color_blocks (drop i (commands xs ys kinds)))))
+  pub end : r.end ≡ i + length (first_block_of (color_blocks (drop i (commands xs ys kinds))))
+  pub len_is : r.len ≡ len + length (stitches_from px py (first_block_of (color_blocks (drop i (commands xs ys kinds)))))
   pub within : r.end ≤ length (commands xs ys kinds)
 
 -- n blocks, with their ends and the bytes of their stitches in two arrays
