@@ -1,7 +1,8 @@
 // EXP and JEF: two stitches, or one record, in a turn.
 // A port of src/formats/read.rs of zigzag, changed.
-ghost use Rattle.std.specs.Prelude.{◌≡◌, ◌+◌, ◌≤◌, length, get_or};
-ghost use Rattle.read_records.specs.Firsts.{pair_row};
+ghost use Rattle.std.specs.Prelude.{◌≡◌, ◌+◌, ◌≤◌, eqb, pos, neg_ℤ, length, get_or};
+ghost use Rattle.rules.specs.Vocabulary.{pick, signed};
+ghost use Rattle.read_records.specs.declared.Row.TheVariants.{Exp, Jef};
 ghost use Rattle.read_builder.specs.Builders.{origin};
 ghost use Rattle.read_records.specs.Tables.{Kinds};
 ghost use Rattle.read_fill.specs.Turns.{Room, Turns, Ends};
@@ -10,8 +11,30 @@ use crate::turn::Turn;
 use read_builder::{Builder, new};
 use read_passes::answers::{change, hop, sew};
 use read_passes::{fill_rest, last_turn};
+use read_records::Row;
 use read_records::bytes::{minus8, s8};
-use read_records::pair::{kinds, row_of, step_x, step_y};
+use read_records::pair::kinds;
+
+// The step of control c on each axis; 80 moves nothing.
+fn step_x(c: u8, b: u8) -> i32
+    ensures { result ≡ pick (eqb c 0x80) (pos 0) (signed 7 b) }
+{
+    let dx = s8(b);
+    if c == 0x80 {
+        return 0;
+    }
+    dx
+}
+
+fn step_y(c: u8, b: u8) -> i32
+    ensures { result ≡ pick (eqb c 0x80) (pos 0) (neg_ℤ (signed 7 b)) }
+{
+    let dy = minus8(b);
+    if c == 0x80 {
+        return 0;
+    }
+    dy
+}
 
 // A control.
 fn turn_control(
@@ -28,8 +51,8 @@ fn turn_control(
     requires kinds { Kinds jef table.now }
     requires at_in_bounds { at + 4 ≤ length bytes.now }
     requires at_value { get_or bytes.now at 0 ≡ 0x80 }
-    requires room { Room (pair_row jef) bytes colors b at places runs blocks }
-    ensures { Turns (pair_row jef) bytes.now colors.now b at places runs blocks result }
+    requires room { Room (pick jef Jef Exp) bytes colors b at places runs blocks }
+    ensures { Turns (pick jef Jef Exp) bytes.now colors.now b at places runs blocks result }
 {
     let c = bytes[at + 1];
     let k = table[c as usize];
@@ -69,8 +92,8 @@ fn turn_pair(
 ) -> Turn
     requires kinds { Kinds jef table.now }
     requires at_in_bounds { at + 4 ≤ length bytes.now }
-    requires room { Room (pair_row jef) bytes colors b at places runs blocks }
-    ensures { Turns (pair_row jef) bytes.now colors.now b at places runs blocks result }
+    requires room { Room (pick jef Jef Exp) bytes colors b at places runs blocks }
+    ensures { Turns (pick jef Jef Exp) bytes.now colors.now b at places runs blocks result }
 {
     if bytes[at] == 0x80 {
         return turn_control(jef, b, table, bytes, at, colors, places, runs, blocks);
@@ -85,6 +108,15 @@ fn turn_pair(
     }
 }
 
+fn row_of(jef: bool) -> Row
+    ensures { result ≡ pick jef Jef Exp }
+{
+    if jef {
+        return Row::Jef;
+    }
+    Row::Exp
+}
+
 pub fn fill_pairs(
     jef: bool,
     bytes: &[u8],
@@ -93,8 +125,8 @@ pub fn fill_pairs(
     runs: &mut [u32],
     blocks: &mut [u32],
 ) -> Builder
-    requires { Room (pair_row jef) bytes colors origin 0 places runs blocks }
-    ensures { Ends (pair_row jef) bytes.now colors.now places runs blocks result }
+    requires { Room (pick jef Jef Exp) bytes colors origin 0 places runs blocks }
+    ensures { Ends (pick jef Jef Exp) bytes.now colors.now places runs blocks result }
 {
     let table = kinds(jef);
     let mut b = new();

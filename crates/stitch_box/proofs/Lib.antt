@@ -1,2 +1,3 @@
--- Lemmas for the calls.
+-- Lemmas for the calls, and the theorems on two lists.
 pub mod Backs
+pub mod Two
