@@ -3,11 +3,12 @@
 
 usage: definitions.py FOLDER [WRITES [READS [SEED]]]
 
-Makes in FOLDER a repository of its own: the crate rules, copied, and a crate `computed` whose
-equations say what the oracle answered, each proved by computing. WRITES cases of each format and
-READS of each extension are drawn (10 each if not said). Then: cd FOLDER && rt check. A definition
-that differs from the Rust is refused there. Lists of more than 8 threads are left out: the choice of their
-entries takes more steps than the prover gives a declaration.
+Makes in FOLDER a repository of its own: the crate rules, its definitions copied without their theorems,
+and a crate `computed` whose equations say what the oracle answered, each proved by computing. WRITES cases
+of each format and READS of each extension are drawn (10 each if not said). Then:
+cd FOLDER/crates/computed && rt check. A definition that differs from the Rust is refused there. Lists of
+more than 8 threads are left out: the choice of their entries takes more steps than the prover gives a
+declaration.
 """
 import glob
 import os
@@ -126,29 +127,30 @@ def main():
     uses, names = [], []
     for path in sorted(glob.glob(os.path.join(RULES, "specs", "*.antt"))):
         module = os.path.basename(path)[:-5]
-        found = re.findall(r"(?m)^unfoldable pub (\S+)", open(path, encoding="utf-8").read())
-        if found and module not in ("Samples", "Vectors", "Edges"):
+        found = re.findall(r"(?m)^ *unfoldable pub (\S+)", open(path, encoding="utf-8").read())
+        if found:
             # A name that another module has too comes in under one of its own.
             own = [name if name not in names else name + module for name in found]
             shown = [name if name == as_ else "%s as %s" % (name, as_) for name, as_ in zip(found, own)]
-            uses.append("use Rattle·rules.specs.%s.{%s}" % (module, ", ".join(shown)))
+            uses.append("use Rattle.rules.specs.%s.{%s}" % (module, ", ".join(shown)))
             names += own
     ieee = ["add", "sub", "mul", "div", "neg", "lt", "of_int", "of_bits", "round", "to_bits"]
-    uses += ["use mathlib.Core.Path.{_≡_, refl}", "use mathlib.Core.List.{List, [], _∷_}", "use lib.IntN.{ℤ, pos, negsuc}", "use lib.Ieee.{%s}" % ", ".join(ieee)]
+    uses += ["use Rattle.std.specs.Prelude.{◌≡◌, refl, [], ◌∷◌, pos, negsuc}", "use Rattle.std.specs.Float.Ieee.{%s}" % ", ".join(ieee)]
     for kind, variants in (("Format", FORMATS), ("Verdict", ["Accepted", "Refused"]), ("Refusal", sorted(REFUSALS.values()))):
-        uses.append("use Rattle·rules.specs.declared.%s.the-variants.{%s}" % (kind, ", ".join(variants)))
+        uses.append("use Rattle.rules.specs.declared.%s.TheVariants.{%s}" % (kind, ", ".join(variants)))
     lines = []
     for i, claim in enumerate(c for claims in picked for c in claims):
         lines.append("e%d : %s\nunfolding %s\ne%d = refl\n" % (i, claim, " ".join(names + ieee), i))
-    specs = os.path.join(folder, "crates", "computed", "specs")
-    os.makedirs(specs)
+    proofs = os.path.join(folder, "crates", "computed", "proofs")
+    os.makedirs(proofs)
     os.makedirs(os.path.join(folder, "crates", "computed", "src"))
-    shutil.copytree(RULES, os.path.join(folder, "crates", "rules"))
+    for part in ("src", "specs"):
+        shutil.copytree(os.path.join(RULES, part), os.path.join(folder, "crates", "rules", part))
     for path, text in (
         (os.path.join(folder, "crates.txt"), "rules:\ncomputed: rules\n"),
-        (os.path.join(folder, "crates", "computed", "src", "lib.rt"), "// There is no code here.\n"),
-        (os.path.join(specs, "Lib.antt"), "pub mod Cases\n"),
-        (os.path.join(specs, "Cases.antt"), "\n".join(uses) + "\n\n" + "\n".join(lines)),
+        (os.path.join(folder, "crates", "computed", "src", "lib.rt"), "// There is no code here.\n#![tactic(auto)]\n"),
+        (os.path.join(proofs, "Lib.antt"), "pub mod Cases\n"),
+        (os.path.join(proofs, "Cases.antt"), "\n".join(uses) + "\n\n" + "\n".join(lines)),
     ):
         with open(path, "w", encoding="utf-8") as out:
             out.write(text)

@@ -1,5 +1,5 @@
 #!/usr/bin/env bash
-# Tries the programs write_job and fits as a user would, in a temporary folder. The gate runs this once target/bin has the programs.
+# Tries the programs write_job and fits as a user would, in a temporary folder. The gate runs this, with the built ones in target/bin.
 # Prints how many checks passed, or the first that failed, and then the status is 1.
 set -u
 cd "$(dirname "$0")/.." || exit 2

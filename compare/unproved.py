@@ -3,10 +3,9 @@
 
 usage: unproved.py FOLDER LIST [PART]
 
-Makes in FOLDER a repository of its own, the crates copied, and runs `rt try replay_writes` there on the
-cases of LIST, PART at a time (4,000 if not said), since a run may take ten seconds. Each part is run by the
-program compiled in three ways. Fails at the first part that is not right in each of them, and prints what
-the run said.
+Makes in FOLDER a repository of its own, the crates copied, and runs `rt try` in its crates/replay_writes on
+the cases of LIST, PART at a time (4,000 if not said), since a run may take a minute. The program is compiled
+with checks. Fails at the first part that is not right, and prints what the run said.
 
 A LIST named `longs` has lengths of four bytes; the copies of the program and of the crate `replay` are changed
 to read these, and the buffers are larger. For it PART is best 12.
@@ -37,7 +36,7 @@ LONGER = {
         ("word(&head, 0)", "long(&head, 0)"),
     ],
     "replay_writes/src/bytes.rt": [
-        ("use replay::bytes::word;", "use replay::bytes::long;\nuse replay::bytes::word;"),
+        ("use replay::bytes::{byte, word};", "use replay::bytes::{byte, long, word};"),
         (", 65536)", ", 2097152)"),
         ("2 <= rest.len()", "4 <= rest.len()"),
         ("part(from_file(case), 2,", "part(from_file(case), 4,"),
@@ -60,7 +59,7 @@ def cases(path, layout):
 
 
 def copied(folder, longer):
-    shutil.copytree(os.path.join(TOP, "crates"), os.path.join(folder, "crates"))
+    shutil.copytree(os.path.join(TOP, "crates"), os.path.join(folder, "crates"), ignore=shutil.ignore_patterns("out"))
     shutil.copy(os.path.join(TOP, "crates.txt"), folder)
     for name, edits in LONGER.items() if longer else ():
         path = os.path.join(folder, "crates", name)
@@ -74,13 +73,12 @@ def copied(folder, longer):
 
 def run(folder, part):
     counts = [sum(1 for found, _ in part if found == number) for number in range(len(FORMATS))]
-    lines = ["%s: %d right, 0 wrong\n" % pair for pair in zip(FORMATS + ["other"], counts + [0])]
-    with open(os.path.join(folder, PROGRAM, "stdout"), "w") as out:
-        out.writelines(lines)
+    right = "".join("%s: %d right, 0 wrong\n" % pair for pair in zip(FORMATS + ["other"], counts + [0]))
     with open(os.path.join(folder, PROGRAM, "data", "writes"), "wb") as out:
         out.writelines(case for _, case in part)
-    tried = subprocess.run(["rt", "try", "replay_writes"], cwd=folder, capture_output=True, text=True)
-    if tried.returncode != 0:
+    command = ["rt", "try", "--data", "writes=data/writes"]
+    tried = subprocess.run(command, cwd=os.path.join(folder, PROGRAM), capture_output=True, text=True)
+    if tried.returncode != 0 or tried.stdout != right:
         sys.exit(tried.stdout + tried.stderr)
     return counts
 
