@@ -85,14 +85,14 @@ def written(data):
     file = unpacked(c.data[c.at :])
     slices = "%s %s %s" % (integers(x for x, _, _ in cmds), integers(y for _, y, _ in cmds), numbers(k for _, _, k in cmds))
     claims = ["file_of %s %s (commands %s) %s ≡ %s" % (fmt, numbers(name), slices, numbers(threads), numbers(file))]
-    claims.append("list_verdict %s %s %s ≡ Accepted" % (fmt, slices, numbers(threads)))
+    claims.append("list_verdict %s %s %s ≡ Ok tt" % (fmt, slices, numbers(threads)))
     return fmt, len(file) if len(threads) <= 24 else LONG, claims
 
 
 def read(data):
     c = Case(data)
     ext, file, refusal = c.text("B"), c.text("H"), c.take("B")
-    verdict = "Refused " + REFUSALS[refusal] if refusal else "Accepted"
+    verdict = "Err " + REFUSALS[refusal] if refusal else "Ok tt"
     claims = ["file_verdict (extension_of %s) %s ≡ %s" % (numbers(ext), numbers(file), verdict)]
     if not refusal:
         label, cuts, places, runs, blocks = c.text("B"), c.take("H"), [], [], []
@@ -135,8 +135,8 @@ def main():
             uses.append("use Rattle.rules.specs.%s.{%s}" % (module, ", ".join(shown)))
             names += own
     ieee = ["add", "sub", "mul", "div", "neg", "lt", "of_int", "of_bits", "round", "to_bits"]
-    uses += ["use Rattle.std.specs.Prelude.{◌≡◌, refl, [], ◌∷◌, pos, negsuc}", "use Rattle.std.specs.Float.Ieee.{%s}" % ", ".join(ieee)]
-    for kind, variants in (("Format", FORMATS), ("Verdict", ["Accepted", "Refused"]), ("Refusal", sorted(REFUSALS.values()))):
+    uses += ["use Rattle.std.specs.Prelude.{◌≡◌, refl, [], ◌∷◌, pos, negsuc, Ok, Err}", "use Rattle.std.specs.Float.Ieee.{%s}" % ", ".join(ieee)]
+    for kind, variants in (("Format", FORMATS), ("Refusal", sorted(REFUSALS.values()))):
         uses.append("use Rattle.rules.specs.declared.%s.TheVariants.{%s}" % (kind, ", ".join(variants)))
     lines = []
     for i, claim in enumerate(c for claims in picked for c in claims):

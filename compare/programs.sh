@@ -220,7 +220,7 @@ head -c 73 "$jobs/square" >"$jobs/cut"
 for job in cut long_name long_thread odd_commands; do refuses 14 "$job" out.dst; done
 
 # The sentence that no job and no file brings up: the source has README's.
-equal "the sentence of 11 in the source" "$(grep -cF "b\"$(sentence 11)\"" crates/command_line/src/words.rt)" 1
+equal "the sentence of 11 in the source" "$(grep -cF "\"$(sentence 11)\"" crates/rules/src/lib.rt)" 1
 
 # ---- write_job: what fails
 

@@ -1,4 +1,5 @@
 -- Laws of the number that digits make. Assumes nothing.
+use Rattle.std.specs.Prelude.{Option, Some, None}
 use Prim.Native.Nat.{ℕ, ◌+◌, ◌-◌, ◌*◌, ◌≤◌, ◌<◌}
 use mathlib.Core.Bool.{Bool, true, false, ◌&&◌, not}
 use mathlib.Core.List.{List, [], ◌∷◌}
@@ -14,10 +15,6 @@ use Rattle.rules.specs.Vocabulary.{pick, all, same_bytes}
 use Rattle.laws.specs.Decimals.{text-more}
 use Rattle.laws.specs.Tests.{by-test, and_left, and_right, and-no-right, pick-false}
 use Rattle.command_line.specs.Numbers.{is_digit, decimal_from, digits_up_to, from_zero, below_zero, number_in}
-use Rattle.command_line.specs.declared.NumberAnswer.TheVariants as number
-use Rattle.command_line.specs.declared.NumberAnswer.TheVariants.{Number}
-use Rattle.command_line.specs.declared.numbers.Digits.{Digits}
-use Rattle.command_line.specs.declared.numbers.Digits.TheVariants.{Make, Wrong}
 
 -- the number only grows
 grows : (n : ℕ) (s : List ℕ) → n ≤ decimal_from n s
@@ -26,34 +23,34 @@ grows n [] = omega arith
 grows n (d ∷ ds) = omega (arith, grows (10 * n + (d - 0x30)) ds)
 
 -- an answer of either kind tells its test
-picked : (b : Bool) (d : ℕ) {n : ℕ} {r : Digits} → r ≡ pick b (Make d) Wrong → r ≡ Make n → (b ≡ true) × (n ≡ d)
+picked : (b : Bool) (d : ℕ) {n : ℕ} {r : Option ℕ} → r ≡ pick b (Some d) None → r ≡ Some n → (b ≡ true) × (n ≡ d)
 picked true d e f = (refl, cc)
 picked false d e f = let z : ◌≡◌ {A = ℕ} 0 1 = cc in absurd (omega arith)
 
-picked-not : (b : Bool) (d : ℕ) {r : Digits} → r ≡ pick b (Make d) Wrong → r ≡ Wrong → b ≡ false
+picked-not : (b : Bool) (d : ℕ) {r : Option ℕ} → r ≡ pick b (Some d) None → r ≡ None → b ≡ false
 picked-not true d e f = let z : ◌≡◌ {A = ℕ} 0 1 = cc in absurd (omega arith)
 picked-not false d e f = refl
 
 -- ---- a loop over a text: the number of bytes behind n, if they are digits and it is up to `most`
 
-unfoldable pub told : ℕ → ℕ → List ℕ → Digits
-told most n s = pick (all is_digit s && leb (decimal_from n s) most) (Make (decimal_from n s)) Wrong
+unfoldable pub told : ℕ → ℕ → List ℕ → Option ℕ
+told most n s = pick (all is_digit s && leb (decimal_from n s) most) (Some (decimal_from n s)) None
 
 -- one byte d behind n, as code makes it
 abbrev with : ℕ → ℕ → ℕ
 with n d = 10 * n + (d - 0x30)
 
-abbrev one : ℕ → ℕ → ℕ → Digits
-one most n d = pick (is_digit d && leb (with n d) most) (Make (with n d)) Wrong
+abbrev one : ℕ → ℕ → ℕ → Option ℕ
+one most n d = pick (is_digit d && leb (with n d) most) (Some (with n d)) None
 
-module _ (most n d : ℕ) (ds : List ℕ) {r : Digits} (e : r ≡ one most n d) where
-  one_more : {m : ℕ} → r ≡ Make m → (m ≤ most) × (told most m ds ≡ told most n (d ∷ ds))
+module _ (most n d : ℕ) (ds : List ℕ) {r : Option ℕ} (e : r ≡ one most n d) where
+  one_more : {m : ℕ} → r ≡ Some m → (m ≤ most) × (told most m ds ≡ told most n (d ∷ ds))
   unfolding told all decimal_from
   one_more f =
       let p = picked (is_digit d && leb (with n d) most) (with n d) e f in
       (omega (arith, p.1, leb-true (with n d) most (and_right (is_digit d) _ p.0)), rw (p.1, and_left (is_digit d) _ p.0))
 
-  one-wrong : r ≡ Wrong → Wrong ≡ told most n (d ∷ ds)
+  one-wrong : r ≡ None → None ≡ told most n (d ∷ ds)
   unfolding told all decimal_from
   one-wrong f = by-test (is_digit d)
       (λ p.
@@ -63,11 +60,11 @@ module _ (most n d : ℕ) (ds : List ℕ) {r : Digits} (e : r ≡ one most n d) 
       (λ p. rw p)
 
 -- what the loop is to answer
-abbrev pub answer : ℕ → List ℕ → Digits
-answer most s = pick (digits_up_to most s) (Make (decimal_from 0 s)) Wrong
+abbrev pub answer : ℕ → List ℕ → Option ℕ
+answer most s = pick (digits_up_to most s) (Some (decimal_from 0 s)) None
 
 module _ (most : ℕ) (s : List ℕ) where
-  pub answer-none : length s ≡ 0 → Wrong ≡ answer most s
+  pub answer-none : length s ≡ 0 → None ≡ answer most s
   unfolding digits_up_to
   answer-none e = rw (eq-eqb (length s) 0 e)
 
@@ -82,22 +79,22 @@ module _ (most : ℕ) (s : List ℕ) where
   made-start l = record { inside = omega arith; small = omega arith; whole = rw (ne_eqb (length s) 0 l) }
 
   module _ {i n : ℕ} (h : Made i n) where
-    pub made_more : i < length s → {r : Digits} {m : ℕ} → r ≡ one most n (get_or s i 0) → r ≡ Make m → Made (i + 1) m
+    pub made_more : i < length s → {r : Option ℕ} {m : ℕ} → r ≡ one most n (get_or s i 0) → r ≡ Some m → Made (i + 1) m
     made_more l e f =
         let o = one_more most n (get_or s i 0) (drop (i + 1) s) e f in
         record { inside = omega arith; small = o.0; whole = o.1 ∙ rw (text-more s i 0 l) at h.whole }
 
-    pub made-wrong : i < length s → {r : Digits} → r ≡ one most n (get_or s i 0) → r ≡ Wrong → Wrong ≡ answer most s
+    pub made-wrong : i < length s → {r : Option ℕ} → r ≡ one most n (get_or s i 0) → r ≡ None → None ≡ answer most s
     made-wrong l e f = one-wrong most n (get_or s i 0) (drop (i + 1) s) e f ∙ rw (text-more s i 0 l) at h.whole
 
-    pub made_all : length s ≤ i → Make n ≡ answer most s
+    pub made_all : length s ≤ i → Some n ≡ answer most s
     unfolding told all decimal_from
     made_all l = rw (drop_of_length-le s l, le-leb n most h.small) at h.whole
 
 -- ---- what a caller makes of the answer
 
-module _ (most : ℕ) (s : List ℕ) {r : Digits} (e : r ≡ answer most s) where
-  pub made-small : {n : ℕ} → r ≡ Make n → n ≤ most
+module _ (most : ℕ) (s : List ℕ) {r : Option ℕ} (e : r ≡ answer most s) where
+  pub made-small : {n : ℕ} → r ≡ Some n → n ≤ most
   unfolding digits_up_to
   made-small f =
       let p = picked (digits_up_to most s) (decimal_from 0 s) e f in
@@ -105,15 +102,15 @@ module _ (most : ℕ) (s : List ℕ) {r : Digits} (e : r ≡ answer most s) wher
       omega (arith, p.1, leb-true (decimal_from 0 s) most l)
 
   module _ (sign : ℕ → ℤ) where
-    pub made-number : {n : ℕ} → r ≡ Make n → Number (sign n) ≡ pick (digits_up_to most s) (Number (sign (decimal_from 0 s))) number.Wrong
+    pub made-number : {n : ℕ} → r ≡ Some n → Some (sign n) ≡ pick (digits_up_to most s) (Some (sign (decimal_from 0 s))) None
     made-number f = let p = picked (digits_up_to most s) (decimal_from 0 s) e f in rw (p.0, p.1)
 
-    pub made_none : r ≡ Wrong → number.Wrong ≡ pick (digits_up_to most s) (Number (sign (decimal_from 0 s))) number.Wrong
+    pub made_none : r ≡ None → None ≡ pick (digits_up_to most s) (Some (sign (decimal_from 0 s))) None
     made_none f = rw (picked-not (digits_up_to most s) (decimal_from 0 s) e f)
 
 -- ---- the sign
 
-pub number-none : (s : List ℕ) → length s ≡ 0 → number.Wrong ≡ number_in s
+pub number-none : (s : List ℕ) → length s ≡ 0 → None ≡ number_in s
 unfolding number_in begins same_bytes from_zero digits_up_to
 number-none [] e = refl
 number-none (b ∷ s) e = absurd (omega arith)

@@ -1,9 +1,10 @@
 -- Laws of the last byte of a kind, and of what follows it. Assumes nothing.
-use Prim.Native.Nat.{ℕ, ◌-◌, ◌≤◌, ◌<◌}
+use Rattle.std.specs.Prelude.{Some, None, Option}
+use Prim.Native.Nat.{ℕ, ◌+◌, ◌-◌, ◌≤◌, ◌<◌}
 use mathlib.Core.Bool.{false}
 use mathlib.Core.List.{List, []}
 use mathlib.Core.Logic.{⊎_elim}
-use mathlib.Core.Path.{◌≡◌, refl, sym, ap, ◌∙◌}
+use mathlib.Core.Path.{◌≡◌, sym, ap, ◌∙◌}
 use native.Mathlib.Nat.{eq-or-lt_of_le}
 use native.Mathlib.Omega.{arith}
 use borrow.Author.Tests.{eq-eqb, ne_eqb}
@@ -11,10 +12,8 @@ use lib.Dec.{eqb}
 use lib.ListN.{length, get_or, take, drop, length-drop}
 use lib.Seq.{take_all}
 use Rattle.rules.specs.Vocabulary.{last_where}
-use Rattle.rules.specs.declared.Found.{Found}
-use Rattle.rules.specs.declared.Found.TheVariants.{At, Missing}
 use Rattle.laws.specs.Searches.{last_none, last-is}
-use Rattle.command_line.specs.Names.{up_to, behind}
+use Rattle.command_line.specs.Names.{behind}
 
 -- no byte from n on is b
 abbrev pub NoneFrom : ℕ → List ℕ → ℕ → Type 0
@@ -28,25 +27,20 @@ module _ (b : ℕ) (s : List ℕ) where
   none_more n other h j l m =
       ⊎_elim (λ e. ne_eqb b (get_or s j 0) (λ q. other (ap (λ (k : ℕ). get_or s k 0) e ∙ sym q))) (λ k. h j l (omega arith)) (eq-or-lt_of_le m)
 
-  pub last-here : (n : ℕ) → 0 < n → n ≤ length s → get_or s (n - 1) 0 ≡ b → NoneFrom b s n → n ≡ up_to (last_where (eqb b) s)
-  unfolding up_to
+  pub last-here : (n : ℕ) → 0 < n → n ≤ length s → get_or s (n - 1) 0 ≡ b → NoneFrom b s n → Some (n - 1) ≡ last_where (eqb b) s
   last-here n z l e h =
-      rw
+      sym
       (last-is (eqb b) 0 s {i = n - 1}
       (record { inside = omega arith; passes = eq-eqb b _ (sym e); others = λ j k a. h j k (omega arith) }))
-      (omega arith)
 
-  pub last-nowhere : (n : ℕ) → n ≤ 0 → NoneFrom b s n → 0 ≡ up_to (last_where (eqb b) s)
-  unfolding up_to
-  last-nowhere n z h = rw (last_none (eqb b) 0 s (λ j l. h j l (omega arith)))
+  pub last-nowhere : (n : ℕ) → n ≤ 0 → NoneFrom b s n → None ≡ last_where (eqb b) s
+  last-nowhere n z h = sym (last_none (eqb b) 0 s (λ j l. h j l (omega arith)))
 
--- what follows a place found, by how many bytes there are up to it
-pub behind-is : (f : Found) (s : List ℕ) (n : ℕ) → n ≡ up_to f → 0 < n → take (length s - n) (drop n s) ≡ behind f s
-unfolding up_to behind
-behind-is (At i) s n e z = rw (take_all (length s - n) (drop n s) (simp length-drop (omega arith)), e)
-behind-is Missing s n e z = absurd (omega arith)
+-- what follows a place found
+pub behind-is : {f : Option ℕ} (s : List ℕ) {i : ℕ} → f ≡ Some i → take (length s - (i + 1)) (drop (i + 1) s) ≡ behind f s
+unfolding behind
+behind-is s {i = i} e = rw e (take_all (length s - (i + 1)) (drop (i + 1) s) (simp length-drop (omega arith)))
 
-pub behind-none : (f : Found) (s : List ℕ) → 0 ≡ up_to f → [] ≡ behind f s
-unfolding up_to behind
-behind-none (At i) s e = absurd (omega arith)
-behind-none Missing s e = refl
+pub behind-none : {f : Option ℕ} (s : List ℕ) → f ≡ None → [] ≡ behind f s
+unfolding behind
+behind-none s e = rw e

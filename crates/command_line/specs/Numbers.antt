@@ -1,9 +1,7 @@
 -- A whole number of 32 signed bits as an argument gives it: digits, behind a minus sign if it is below zero.
-use Rattle.std.specs.Prelude.{ℕ, ◌+◌, ◌-◌, ◌*◌, Bool, ◌&&◌, not, List, [], ◌∷◌, leb, eqb, pos, neg_ℤ, length, drop}
+use Rattle.std.specs.Prelude.{ℕ, ◌+◌, ◌-◌, ◌*◌, Bool, ◌&&◌, not, List, [], ◌∷◌, leb, eqb, pos, neg_ℤ, length, drop, Option, Some, None, ℤ}
 use Rattle.rules.specs.Text.{begins}
 use Rattle.rules.specs.Vocabulary.{pick, all}
-use Rattle.command_line.specs.declared.NumberAnswer.{NumberAnswer}
-use Rattle.command_line.specs.declared.NumberAnswer.TheVariants.{Number, Wrong}
 
 unfoldable pub is_digit : ℕ → Bool
 is_digit b = leb 0x30 b && leb b 0x39
@@ -17,11 +15,11 @@ decimal_from n (d ∷ ds) = decimal_from (10 * n + (d - 0x30)) ds
 unfoldable pub digits_up_to : ℕ → List ℕ → Bool
 digits_up_to most s = not (eqb (length s) 0) && (all is_digit s && leb (decimal_from 0 s) most)
 
-unfoldable pub from_zero : List ℕ → NumberAnswer
-from_zero s = pick (digits_up_to 2147483647 s) (Number (pos (decimal_from 0 s))) Wrong
+unfoldable pub from_zero : List ℕ → Option ℤ
+from_zero s = pick (digits_up_to 2147483647 s) (Some (pos (decimal_from 0 s))) None
 
-unfoldable pub below_zero : List ℕ → NumberAnswer
-below_zero s = pick (digits_up_to 2147483648 s) (Number (neg_ℤ (pos (decimal_from 0 s)))) Wrong
+unfoldable pub below_zero : List ℕ → Option ℤ
+below_zero s = pick (digits_up_to 2147483648 s) (Some (neg_ℤ (pos (decimal_from 0 s)))) None
 
-unfoldable pub number_in : List ℕ → NumberAnswer
+unfoldable pub number_in : List ℕ → Option ℤ
 number_in s = pick (begins (0x2D ∷ []) s) (below_zero (drop 1 s)) (from_zero s)

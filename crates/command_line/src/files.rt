@@ -1,7 +1,8 @@
 // Files by name. Of a call that fails, standard error tells the name and why.
-ghost use Rattle.command_line.specs.Files.{Within};
+ghost use Rattle.std.specs.Prelude.{IfOk};
+ghost use Rattle.command_line.specs.Files.{IsPrefixLen};
 
-use super::FileAnswer;
+use super::Told;
 use super::names::{new_name, path};
 use super::words::failed;
 use std::fs::{File, OpenFile, OpenOptions};
@@ -11,33 +12,35 @@ use std::rt::Files;
 use std::{fs, io};
 
 // One read to the front of a buffer. It reads nothing only at the end of the file, or if there is no room.
-fn read_some<F: Read>(file: &mut F, err: &impl Print, name: &[u8], buf: &mut [u8]) -> FileAnswer
-    ensures { Within result buf.new }
+fn read_some<F: Read>(
+    file: &mut F,
+    err: &impl Print,
+    name: &[u8],
+    buf: &mut [u8],
+) -> Result<usize, Told>
+    ensures { IfOk result (λ n. IsPrefixLen n buf.new) }
 {
-    match file.read(buf) {
-        Ok(n) => FileAnswer::Read(n),
-        Err(why) => {
-            failed(err, name, why);
-            FileAnswer::Failed
-        }
-    }
+    file.read(buf).map_err(|why| failed(err, name, why))
 }
 
-fn read_all<F: Read>(file: &mut F, err: &impl Print, name: &[u8], buf: &mut [u8]) -> FileAnswer
-    ensures { Within result buf.new }
+fn read_all<F: Read>(
+    file: &mut F,
+    err: &impl Print,
+    name: &[u8],
+    buf: &mut [u8],
+) -> Result<usize, Told>
+    ensures { IfOk result (λ n. IsPrefixLen n buf.new) }
 {
     let mut n = 0;
+    // Kept as while: each turn goes on by as many bytes as were read.
     while n < buf.len() {
-        let some = read_some(file, err, name, &mut buf[n..]);
-        let FileAnswer::Read(more) = some else {
-            return FileAnswer::Failed;
-        };
+        let more = read_some(file, err, name, &mut buf[n..])?;
         if more == 0 {
-            return FileAnswer::Read(n);
+            return Ok(n);
         }
         n += more;
     }
-    FileAnswer::Read(n)
+    Ok(n)
 }
 
 fn open<R: Files>(rt: &R, name: &[u8]) -> io::Result<R::File> {
@@ -46,16 +49,16 @@ fn open<R: Files>(rt: &R, name: &[u8]) -> io::Result<R::File> {
 
 // Reads a file to the front of a buffer, until it ends or the buffer is full. So a buffer that is a byte longer than a file may be tells
 // one that is too long.
-pub fn read_file<R: Files>(rt: &R, err: &impl Print, name: &[u8], buf: &mut [u8]) -> FileAnswer
-    ensures { Within result buf.new }
+pub fn read_file<R: Files>(
+    rt: &R,
+    err: &impl Print,
+    name: &[u8],
+    buf: &mut [u8],
+) -> Result<usize, Told>
+    ensures { IfOk result (λ n. IsPrefixLen n buf.new) }
 {
-    match open(rt, name) {
-        Ok(mut file) => read_all(&mut file, err, name, buf),
-        Err(why) => {
-            failed(err, name, why);
-            FileAnswer::Failed
-        }
-    }
+    let mut file = open(rt, name).map_err(|why| failed(err, name, why))?;
+    read_all(&mut file, err, name, buf)
 }
 
 // Writes all bytes to a new file, and waits until its device has them.
@@ -97,18 +100,12 @@ fn replace<R: Files + RandomSource>(rt: &R, name: &[u8], bytes: &[u8]) -> io::Re
 }
 
 // Makes a file of these bytes, or puts it in the place of the one that has the name: it is made under a new name in the same folder and
-// then renamed. Where a call fails, an old file is as it was, the new one is removed, and the answer is false.
+// then renamed. Where a call fails, an old file is as it was and the new one is removed.
 pub fn replace_file<R: Files + RandomSource>(
     rt: &R,
     err: &impl Print,
     name: &[u8],
     bytes: &[u8],
-) -> bool {
-    match replace(rt, name, bytes) {
-        Ok(()) => true,
-        Err(why) => {
-            failed(err, name, why);
-            false
-        }
-    }
+) -> Result<(), Told> {
+    replace(rt, name, bytes).map_err(|why| failed(err, name, why))
 }

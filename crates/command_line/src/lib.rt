@@ -7,6 +7,7 @@ mod names;
 mod numbers;
 mod words;
 
+ghost use Rattle.std.specs.Prelude.{IfSome};
 ghost use Rattle.command_line.specs.Files.{IsPrefixLen};
 
 pub use files::{read_file, replace_file};
@@ -16,41 +17,16 @@ use std::env::FillError;
 use std::rt::Env;
 pub use words::{refused, usage};
 
-// An argument at the front of a buffer: its length, and whether all of it is there.
-#[derive(Clone, Copy)]
-pub struct ArgumentAnswer {
-    pub len: usize,
-    pub whole: bool,
-}
+// The error of a call that failed, which standard error has told.
+#[derive(Clone, Copy, Debug, PartialEq, Eq)]
+pub struct Told;
 
-// A number that an argument gives, or that it gives none of 32 signed bits.
-#[derive(Clone, Copy)]
-pub enum NumberAnswer {
-    Number(i32),
-    Wrong,
-}
-
-// How many bytes of a file were read, or that reading failed, which has been told.
-#[derive(Clone, Copy)]
-pub enum FileAnswer {
-    Read(usize),
-    Failed,
-}
-
-// Argument i, of which there is nothing if it is missing or longer than the buffer. The program's own name is argument 0.
-pub fn argument(rt: &impl Env, i: usize, buf: &mut [u8]) -> ArgumentAnswer
-    ensures { IsPrefixLen result.len buf.new }
+// The length of argument i, which is put to the front of a buffer; none if it is missing or longer than the buffer. The program's own
+// name is argument 0.
+pub fn argument(rt: &impl Env, i: usize, buf: &mut [u8]) -> Option<usize>
+    ensures { IfSome result (λ n. IsPrefixLen n buf.new) }
 {
-    match rt.arg(i, buf) {
-        Ok(n) => ArgumentAnswer {
-            len: n,
-            whole: true,
-        },
-        Err(_) => ArgumentAnswer {
-            len: 0,
-            whole: false,
-        },
-    }
+    rt.arg(i, buf).ok()
 }
 
 // Whether there is an argument i.

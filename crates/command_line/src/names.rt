@@ -1,36 +1,34 @@
 // Parts of a file's name, and a name for a new file.
-ghost use Rattle.std.specs.Prelude.{◌≡◌, ◌≤◌, eqb, length, IfOk, OnErr};
+ghost use Rattle.std.specs.Prelude.{◌≡◌, ◌≤◌, ◌<◌, eqb, length, IfOk, IfSome, OnErr};
 ghost use Rattle.rules.specs.Vocabulary.{last_where};
 ghost use Rattle.command_line.specs.Files.{IsPrefixLen};
-ghost use Rattle.command_line.specs.Names.{up_to, after_last_dot};
+ghost use Rattle.command_line.specs.Names.{after_last_dot};
 
 use std::io;
 use std::io::ErrorKind;
 use std::random::RandomSource;
 
-// How many bytes a name has up to the last `b`, with that one; 0 if there is none.
-pub fn up_to_last(name: &[u8], b: u8) -> usize
-    ensures { (result ≤ length name.now) × (result ≡ up_to (last_where (eqb b) name.now)) }
+// Where the last `b` stands.
+pub fn last(s: &[u8], b: u8) -> Option<usize>
+    ensures within { IfSome result (λ i. i < length s.now) }
+    ensures is { result ≡ last_where (eqb b) s.now }
 {
-    let mut n = name.len();
-    while 0 < n {
-        if name[n - 1] == b {
-            return n;
+    for i in (0..s.len()).rev() {
+        if s[i] == b {
+            return Some(i);
         }
-        n -= 1;
     }
-    0
+    None
 }
 
 // What follows the last dot, as a part of the name; nothing if there is no dot.
 pub fn extension(name: &[u8]) -> &[u8]
     ensures { result.now ≡ after_last_dot name.now }
 {
-    let n = up_to_last(name, b'.');
-    if n == 0 {
-        return &name[..0];
+    match last(name, b'.') {
+        Some(i) => &name[i + 1..],
+        None => &[],
     }
-    &name[n..]
 }
 
 // Copies text to a buffer from a place on, as far as there is room, and answers the next place.
@@ -38,17 +36,10 @@ fn put(to: &mut [u8], at: usize, text: &[u8]) -> usize
     requires { at ≤ length to.old }
     ensures { IsPrefixLen result to.new }
 {
-    let mut n = at;
-    let mut i = 0;
-    while i < text.len() {
-        if n == to.len() {
-            return n;
-        }
-        to[n] = text[i];
-        n += 1;
-        i += 1;
-    }
-    n
+    let n = text.len().min(to.len() - at);
+    let end = at + n;
+    to[at..end].copy_from_slice(&text[..n]);
+    end
 }
 
 // A small letter for a random byte.
@@ -57,10 +48,18 @@ fn letter(b: u8) -> u8 {
 }
 
 fn to_letters(bytes: &mut [u8]) {
-    let mut i = 0;
-    while i < bytes.len() {
-        bytes[i] = letter(bytes[i]);
-        i += 1;
+    for b in bytes.iter_mut() {
+        *b = letter(*b);
+    }
+}
+
+// How many bytes the folder of a file has, with the slash that ends it.
+fn folder_len(name: &[u8]) -> usize
+    ensures { result ≤ length name.now }
+{
+    match last(name, b'/') {
+        Some(i) => i + 1,
+        None => 0,
     }
 }
 
@@ -73,16 +72,12 @@ pub fn new_name(rt: &impl RandomSource, beside: &[u8], to: &mut [u8]) -> io::Res
     let mut random = [0u8; 16];
     rt.fill_bytes(&mut random)?;
     to_letters(&mut random);
-    let folder = up_to_last(beside, b'/');
-    let mut n = put(to, 0, &beside[..folder]);
+    let mut n = put(to, 0, &beside[..folder_len(beside)]);
     n = put(to, n, b"part-");
     Ok(put(to, n, &random))
 }
 
 // A file's name as a path, which std has of UTF-8 only.
 pub fn path(name: &[u8]) -> io::Result<&str> {
-    match std::str::from_utf8(name) {
-        Ok(text) => Ok(text),
-        Err(_) => Err(io::Error::new(ErrorKind::InvalidInput, "not UTF-8")),
-    }
+    std::str::from_utf8(name).map_err(|_| io::Error::new(ErrorKind::InvalidInput, "not UTF-8"))
 }

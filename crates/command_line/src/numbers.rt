@@ -1,84 +1,61 @@
 // A number of 32 signed bits that an argument gives.
-ghost use Rattle.std.specs.Prelude.{◌≡◌, ◌&&◌, ◌+◌, ◌-◌, ◌*◌, ◌^◌, ◌≤◌, leb};
+ghost use Rattle.std.specs.Prelude.{◌≡◌, ◌&&◌, ◌+◌, ◌-◌, ◌*◌, ◌^◌, ◌≤◌, leb, Some, None};
 ghost use Rattle.rules.specs.Vocabulary.{pick};
 ghost use Rattle.command_line.specs.Numbers.{is_digit, decimal_from, digits_up_to, from_zero, below_zero, number_in};
 
-use super::NumberAnswer;
-
-// The number that digits make up to a bound, or that they make none.
-#[derive(Clone, Copy)]
-enum Digits {
-    Make(u64),
-    Wrong,
-}
-
-// The number n with one more digit behind it.
-fn with_digit(n: u64, b: u8, most: u64) -> Digits
+// The number n with one more digit behind it, if it is up to a bound.
+#[tactic(auto, unfolding(crate::specs::Numbers::is_digit))]
+fn with_digit(n: u64, b: u8, most: u64) -> Option<u64>
     requires { n ≤ 2 ^ 31 }
-    ensures { result ≡ pick (is_digit b && leb (10 * n + (b - 0x30)) most) (Digits.Make (10 * n + (b - 0x30))) Digits.Wrong }
+    ensures { result ≡ pick (is_digit b && leb (10 * n + (b - 0x30)) most) (Some (10 * n + (b - 0x30))) None }
 {
-    if b < b'0' {
-        return Digits::Wrong;
-    }
-    if b'9' < b {
-        return Digits::Wrong;
+    if !b.is_ascii_digit() {
+        return None;
     }
     let m = 10 * n + (b - b'0') as u64;
     if most < m {
-        return Digits::Wrong;
+        return None;
     }
-    Digits::Make(m)
+    Some(m)
 }
 
 // The number of a text of digits. It only grows, so one that passes the bound ends the loop.
-fn digits_up_to(text: &[u8], most: u64) -> Digits
+fn digits_up_to(text: &[u8], most: u64) -> Option<u64>
     requires { most ≤ 2 ^ 31 }
-    ensures { result ≡ pick (digits_up_to most text.now) (Digits.Make (decimal_from 0 text.now)) Digits.Wrong }
+    ensures { result ≡ pick (digits_up_to most text.now) (Some (decimal_from 0 text.now)) None }
 {
     if text.len() == 0 {
-        return Digits::Wrong;
+        return None;
     }
     let mut n = 0;
-    let mut i = 0;
-    while i < text.len() {
-        let more = with_digit(n, text[i], most);
-        let Digits::Make(m) = more else {
-            return Digits::Wrong;
-        };
-        n = m;
-        i += 1;
+    for b in text {
+        n = with_digit(n, *b, most)?;
     }
-    Digits::Make(n)
+    Some(n)
 }
 
 // Digits alone.
-fn from_zero(text: &[u8]) -> NumberAnswer
+fn from_zero(text: &[u8]) -> Option<i32>
     ensures { result ≡ from_zero text.now }
 {
-    let made = digits_up_to(text, 2147483647);
-    match made {
-        Digits::Make(n) => NumberAnswer::Number(n as i32),
-        Digits::Wrong => NumberAnswer::Wrong,
-    }
+    let n = digits_up_to(text, 2147483647)?;
+    Some(n as i32)
 }
 
 // Digits that a minus sign stood before.
-fn below_zero(text: &[u8]) -> NumberAnswer
+fn below_zero(text: &[u8]) -> Option<i32>
     ensures { result ≡ below_zero text.now }
 {
-    let made = digits_up_to(text, 2147483648);
-    match made {
-        Digits::Make(n) => NumberAnswer::Number((0 - n as i64) as i32),
-        Digits::Wrong => NumberAnswer::Wrong,
-    }
+    let n = digits_up_to(text, 2147483648)?;
+    Some((0 - n as i64) as i32)
 }
 
 // Digits, behind a minus sign if the number is below zero.
-pub fn number_in(text: &[u8]) -> NumberAnswer
+pub fn number_in(text: &[u8]) -> Option<i32>
     ensures { result ≡ number_in text.now }
 {
     if text.len() == 0 {
-        return NumberAnswer::Wrong;
+        return None;
     }
     if text[0] == b'-' {
         return below_zero(&text[1..]);

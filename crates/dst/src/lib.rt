@@ -2,7 +2,7 @@
 // A port of src/formats/dst.rs of zigzag, changed.
 #![tactic(auto)]
 
-ghost use Rattle.std.specs.Prelude.{◌≡◌, false, ◌+◌, ◌-◌, ◌≤◌, eqb, pos, nat_abs, length, get_or, replicate};
+ghost use Rattle.std.specs.Prelude.{◌≡◌, false, ◌+◌, ◌-◌, ◌≤◌, eqb, pos, nat_abs, length, get_or, replicate, Some};
 ghost use Rattle.std.specs.Int.Signed.{non_neg};
 ghost use Rattle.rules.specs.Files.{write_answer};
 ghost use Rattle.rules.specs.Vocabulary.{pick, count, padded, right};
@@ -10,7 +10,6 @@ ghost use Rattle.rules.specs.Lists.{commands, op_of, is_trim, dst_name};
 ghost use Rattle.rules.specs.Dst.{line, signed_right, dst_text, dst_file};
 ghost use Rattle.rules.specs.Refusals.{step_too_long};
 ghost use Rattle.rules.specs.Promises.{Wrote};
-ghost use Rattle.rules.specs.declared.Extension.TheVariants.{Of};
 ghost use Rattle.rules.specs.declared.Format.TheVariants.{Dst};
 ghost use Rattle.laws.specs.Buffers.{Puts};
 ghost use Rattle.emit.specs.Answered.{Answered};
@@ -19,7 +18,7 @@ ghost use Rattle.dst.specs.Lines.{trimming, counts_text, bounds_text, last_text,
 use emit::{put, put_name, put_right, put_text, put_times, put2, put3, size};
 use formats::{list_len, op_of, stream_bounds};
 use geom::Bounds;
-use rules::{DST_HEADER, Format, Op, Refusal, Verdict, WriteAnswer};
+use rules::{DST_HEADER, Format, Op, Refusal, Written};
 use stream::{put_stream, stream_len};
 use stream_cmd::Stream;
 use write_refusals::{check_list, color_changes};
@@ -123,12 +122,10 @@ fn trims(xs: &[i32], ys: &[i32], kinds: &[u8]) -> usize
 {
     let n = list_len(xs, ys, kinds);
     let mut found = 0;
-    let mut i = 0;
-    while i < n {
+    for i in 0..n {
         if is_trim(kinds[i]) {
             found += 1;
         }
-        i += 1;
     }
     found
 }
@@ -180,15 +177,24 @@ fn put_file(name: &[u8], xs: &[i32], ys: &[i32], kinds: &[u8], out: &mut [u8]) -
 }
 
 // The file, or refusal 11.
-fn write_accepted(name: &[u8], xs: &[i32], ys: &[i32], kinds: &[u8], out: &mut [u8]) -> WriteAnswer
+fn write_accepted(
+    name: &[u8],
+    xs: &[i32],
+    ys: &[i32],
+    kinds: &[u8],
+    out: &mut [u8],
+) -> Result<Written, Refusal>
     requires { (length kinds.now ≤ 65535) × (step_too_long Dst (commands xs.now ys.now kinds.now) ≡ false) }
     ensures { Answered (write_answer 0) (dst_file name.now (commands xs.now ys.now kinds.now)) out.old out.new result }
 {
     let n = DST_HEADER + stream_len(Stream::Dst, xs, ys, kinds);
     if out.len() < n {
-        return WriteAnswer::Unwritten(Refusal::BufferTooShort);
+        return Err(Refusal::BufferTooShort);
     }
-    WriteAnswer::Written(put_file(name, xs, ys, kinds, out), 0)
+    Ok(Written {
+        len: put_file(name, xs, ys, kinds, out),
+        distance: 0,
+    })
 }
 
 // Writes a list as a DST file to the front of the buffer: its length; or why it is refused, and the buffer as it was.
@@ -199,12 +205,9 @@ pub fn dst_from_stream(
     kinds: &[u8],
     threads: &[u8],
     out: &mut [u8],
-) -> WriteAnswer
-    ensures { Wrote (Of Dst) name.now xs.now ys.now kinds.now threads.now out.old out.new result }
+) -> Result<Written, Refusal>
+    ensures { Wrote (Some Dst) name.now xs.now ys.now kinds.now threads.now out.old out.new result }
 {
-    let checked = check_list(Format::Dst, xs, ys, kinds, threads);
-    match checked {
-        Verdict::Accepted => write_accepted(name, xs, ys, kinds, out),
-        Verdict::Refused(why) => WriteAnswer::Unwritten(why),
-    }
+    check_list(Format::Dst, xs, ys, kinds, threads)?;
+    write_accepted(name, xs, ys, kinds, out)
 }

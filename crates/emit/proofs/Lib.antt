@@ -1,2 +1,4 @@
 -- Lemmas for the writers.
+pub mod Bits
+pub mod Parts
 pub mod Writes

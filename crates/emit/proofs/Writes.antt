@@ -1,4 +1,5 @@
 -- What a writer answers, from the checks of its list and the room for its file. Assumes nothing.
+use Rattle.std.specs.Prelude.{Some, Ok, Err, Result, ⊤}
 use Prim.Native.Nat.{ℕ, ◌/◌, ◌%◌, ◌≤◌, ◌<◌}
 use mathlib.Core.Path.{◌≡◌, refl, sym, ◌∙◌}
 use mathlib.Core.Bool.{Bool, true, false, not}
@@ -14,18 +15,14 @@ use Rattle.rules.specs.Promises.{Wrote}
 use Rattle.rules.specs.Refusals.{bad_list, place_outside, changes, too_many, moved, step_too_long, verdict, list_refusals, list_verdict}
 use Rattle.rules.specs.Vocabulary.{count}
 use Rattle.rules.specs.declared.Cmd.{Cmd}
-use Rattle.rules.specs.declared.Extension.TheVariants.{Of}
 use Rattle.rules.specs.declared.Format.{Format}
 use Rattle.rules.specs.declared.Refusal.{Refusal}
 use Rattle.rules.specs.declared.Refusal.TheVariants.{BufferTooShort}
-use Rattle.rules.specs.declared.Verdict.{Verdict}
-use Rattle.rules.specs.declared.Verdict.TheVariants.{Accepted, Refused}
-use Rattle.rules.specs.declared.WriteAnswer.{WriteAnswer}
-use Rattle.rules.specs.declared.WriteAnswer.TheVariants.{Written, Unwritten}
 use Rattle.laws.specs.Buffers.{Put, put_front}
 use Rattle.laws.specs.Tests.{by-test, or-no-left, or-no-right}
 use Rattle.laws.specs.Verdicts.{first-false, verdict-on, verdict-stop}
 use Rattle.emit.specs.Answered.{room_verdict, Answered, FileAnswered}
+use Rattle.rules.specs.declared.Written.{Written}
 
 -- ---- room: the file is n cells long
 
@@ -33,23 +30,23 @@ pub fits : {n room long : ℕ} → n ≤ room → long ≡ n → long ≤ room
 fits h e = rw e h
 
 module _ {file d : List ℕ} {n : ℕ} where
-  module _ {A : Type 0} (answer : Verdict → ℕ → A) where
-    pub put_all : {d' : List ℕ} {r : ℕ} → n ≤ length d → length file ≡ n → Put d d' 0 r file → Answered answer file d d' (answer Accepted r)
+  module _ {A : Type 0} (answer : Result ⊤ Refusal → ℕ → A) where
+    pub put_all : {d' : List ℕ} {r : ℕ} → n ≤ length d → length file ≡ n → Put d d' 0 r file → Answered answer file d d' (answer (Ok tt) r)
     unfolding room_verdict verdict filled
     put_all h e p =
         let v = le-ltb (length d) (length file) (fits h e) in
         let q = put_front (fits h e) p in
         record { told = rw (v, q.0); stored = rw v q.1 }
 
-    pub no_room_lem : length d < n → length file ≡ n → Answered answer file d d (answer (Refused BufferTooShort) (length file))
+    pub no_room_lem : length d < n → length file ≡ n → Answered answer file d d (answer (Err BufferTooShort) (length file))
     unfolding room_verdict verdict filled
     no_room_lem h e = let v = lt-ltb (length d) (length file) (rw e h) in record { told = rw v; stored = rw v }
 
-  pub written : {d' : List ℕ} {r k far : ℕ} → n ≤ length d → length file ≡ n → Put d d' 0 r file → k ≡ far → Answered (write_answer far) file d d' (Written r k)
+  pub written : {d' : List ℕ} {r k far : ℕ} → n ≤ length d → length file ≡ n → Put d d' 0 r file → k ≡ far → Answered (write_answer far) file d d' (Ok (record { len = r; distance = k }))
   unfolding write_answer
   written {far = far} h e p q = rw q (put_all (write_answer far) h e p)
 
-  pub unwritten : (far : ℕ) → length d < n → length file ≡ n → Answered (write_answer far) file d d (Unwritten BufferTooShort)
+  pub unwritten : (far : ℕ) → length d < n → length file ≡ n → Answered (write_answer far) file d d (Err BufferTooShort)
   unfolding write_answer
   unwritten far h e = no_room_lem (write_answer far) h e
 
@@ -59,21 +56,21 @@ no-not : (b : Bool) → not b ≡ false → b ≡ true
 no-not true e = refl
 no-not false e = sym e
 
-module _ {f : Format} {name : List ℕ} {xs ys : List ℤ} {kinds threads d : List ℕ} {v : Verdict} where
+module _ {f : Format} {name : List ℕ} {xs ys : List ℤ} {kinds threads d : List ℕ} {v : Result ⊤ Refusal} where
   -- the list is refused
-  pub not-wrote : {s : Refusal} → v ≡ list_verdict f xs ys kinds threads → v ≡ Refused s → Wrote (Of f) name xs ys kinds threads d d (Unwritten s)
+  pub not-wrote : {s : Refusal} → v ≡ list_verdict f xs ys kinds threads → v ≡ Err s → Wrote (Some f) name xs ys kinds threads d d (Err s)
   unfolding list_verdict write_verdict write_answer filled
   not-wrote {s} t e =
-      let w : write_verdict (Of f) name xs ys kinds threads (length d) ≡ Refused s = verdict-stop (list_refusals f xs ys kinds threads) _ s (sym t ∙ e) in
+      let w : write_verdict (Some f) name xs ys kinds threads (length d) ≡ Err s = verdict-stop (list_refusals f xs ys kinds threads) _ s (sym t ∙ e) in
       record { answered = rw w; stored = rw w }
 
   -- the list is accepted, and its room decides
-  pub wrote : {d' : List ℕ} {r : WriteAnswer} → v ≡ list_verdict f xs ys kinds threads → v ≡ Accepted
-      → FileAnswered f name (commands xs ys kinds) threads d d' r → Wrote (Of f) name xs ys kinds threads d d' r
+  pub wrote : {d' : List ℕ} {r : Result Written Refusal} → v ≡ list_verdict f xs ys kinds threads → v ≡ Ok tt
+      → FileAnswered f name (commands xs ys kinds) threads d d' r → Wrote (Some f) name xs ys kinds threads d d' r
   unfolding list_verdict write_verdict room_verdict file_told distance_told
   wrote t e a =
       let rs = list_refusals f xs ys kinds threads in
-      let w : write_verdict (Of f) name xs ys kinds threads (length d) ≡ room_verdict (file_of f name (commands xs ys kinds) threads) (length d)
+      let w : write_verdict (Some f) name xs ys kinds threads (length d) ≡ room_verdict (file_of f name (commands xs ys kinds) threads) (length d)
       = verdict-on rs _ (sym t ∙ e) in
       record { answered = rw w a.told; stored = rw w a.stored }
 
@@ -124,8 +121,8 @@ even xs ys kinds t =
     above : (n : ℕ) → eqb n 0 ≡ false → 1 ≤ n
     above n e = by-test (ltb 0 n) (λ t. ltb-true 0 n t) (λ t. absurd (eqb-false n 0 e (omega (arith, ltb-false 0 n t))))
 
-pub fine : {f : Format} {xs ys : List ℤ} {kinds threads : List ℕ} {v : Verdict}
-    → v ≡ list_verdict f xs ys kinds threads → v ≡ Accepted → Fine f xs ys kinds threads
+pub fine : {f : Format} {xs ys : List ℤ} {kinds threads : List ℕ} {v : Result ⊤ Refusal}
+    → v ≡ list_verdict f xs ys kinds threads → v ≡ Ok tt → Fine f xs ys kinds threads
 unfolding list_verdict list_refusals verdict
 fine {f} {xs} {ys} {kinds} {threads} t e =
     let cs = commands xs ys kinds in

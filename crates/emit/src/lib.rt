@@ -51,17 +51,8 @@ pub fn put_word(out: &mut [u8], at: usize, v: u32) -> usize
     requires { at + 4 ≤ length out.old }
     ensures { Puts out at result (little 4 v) }
 {
-    let high = v / 256;
-    let higher = high / 256;
-    let top = higher / 256;
-    put4(
-        out,
-        at,
-        (v % 256) as u8,
-        (high % 256) as u8,
-        (higher % 256) as u8,
-        (top % 256) as u8,
-    )
+    let b = v.to_le_bytes();
+    put4(out, at, b[0], b[1], b[2], b[3])
 }
 
 // A number in three bytes, the low byte first; what is past them is lost.
@@ -69,15 +60,8 @@ pub fn put_three(out: &mut [u8], at: usize, v: u32) -> usize
     requires { at + 3 ≤ length out.old }
     ensures { Puts out at result (little 3 v) }
 {
-    let high = v / 256;
-    let top = high / 256;
-    put3(
-        out,
-        at,
-        (v % 256) as u8,
-        (high % 256) as u8,
-        (top % 256) as u8,
-    )
+    let b = v.to_le_bytes();
+    put3(out, at, b[0], b[1], b[2])
 }
 
 // A number in two bytes, the low byte first; what is past them is lost.
@@ -85,29 +69,33 @@ pub fn put_short(out: &mut [u8], at: usize, v: usize) -> usize
     requires { at + 2 ≤ length out.old }
     ensures { Puts out at result (little 2 v) }
 {
-    let high = v / 256;
-    put2(out, at, (v % 256) as u8, (high % 256) as u8)
+    let b = v.to_le_bytes();
+    put2(out, at, b[0], b[1])
 }
 
-// A number of 16 bits in two's complement.
+// A small number in two's complement.
+pub fn low_byte(z: i32) -> u8
+    requires { nat_abs z ≤ 127 }
+    ensures { result ≡ bits_of 7 z }
+{
+    (z as i8).cast_unsigned()
+}
+
+// The same in 16 bits.
 pub fn low16(z: i32) -> usize
     requires { nat_abs z ≤ 32767 }
     ensures { result ≡ bits_of 15 z }
 {
-    (((z + 65536) as u32) % 65536) as usize
+    (z as i16).cast_unsigned() as usize
 }
 
 pub fn put_text(out: &mut [u8], at: usize, text: &[u8]) -> usize
     requires { at + length text.now ≤ length out.old }
     ensures { Puts out at result text.now }
 {
-    let mut i = 0;
-    let mut to = at;
-    while i < text.len() {
-        to = put(out, to, text[i]);
-        i += 1;
-    }
-    to
+    let end = at + text.len();
+    out[at..end].copy_from_slice(text);
+    end
 }
 
 // The same byte n times.
@@ -115,23 +103,16 @@ pub fn put_times(out: &mut [u8], at: usize, a: u8, n: usize) -> usize
     requires { at + n ≤ length out.old }
     ensures { Puts out at result (replicate n a) }
 {
-    let mut left = n;
-    let mut to = at;
-    while 0 < left {
-        to = put(out, to, a);
-        left -= 1;
-    }
-    to
+    let end = at + n;
+    out[at..end].fill(a);
+    end
 }
 
 // Whether a byte is from `low` to before `high`.
 fn stays(b: u8, low: u8, high: u8) -> bool
     ensures { result ≡ (leb low b && ltb b high) }
 {
-    if b < low {
-        return false;
-    }
-    b < high
+    low <= b && b < high
 }
 
 // Of a name the first `most` bytes that are from `low` to before `high`, filled with blanks to 16 bytes.
@@ -142,17 +123,14 @@ pub fn put_name(name: &[u8], low: u8, high: u8, most: usize, out: &mut [u8], at:
     let fill = 16 - most;
     let mut left = most;
     let mut to = at;
-    let mut i = 0;
-    while i < name.len() {
+    for b in name {
         if left == 0 {
             return put_times(out, to, 0x20, fill);
         }
-        let b = name[i];
-        i += 1;
-        if !stays(b, low, high) {
+        if !stays(*b, low, high) {
             continue;
         }
-        to = put(out, to, b);
+        to = put(out, to, *b);
         left -= 1;
     }
     put_times(out, to, 0x20, fill + left)
@@ -178,15 +156,14 @@ fn digit_at(k: usize, v: u32) -> u8
 }
 
 // A number in decimal, right-aligned in n columns.
+// Kept by hand: no clause of a formatter tells the bytes, and `right n v` does.
 pub fn put_right(out: &mut [u8], at: usize, n: usize, v: u32) -> usize
     requires { (n ≤ 10) × (at + n ≤ length out.old) }
     ensures { Puts out at result (right n v) }
 {
-    let mut left = n;
     let mut to = at;
-    while 0 < left {
-        to = put(out, to, digit_at(left - 1, v));
-        left -= 1;
+    for k in (0..n).rev() {
+        to = put(out, to, digit_at(k, v));
     }
     to
 }
@@ -196,10 +173,7 @@ pub fn size(z: i64) -> u32
     requires { nat_abs z ≤ 4294967295 }
     ensures { result ≡ nat_abs z }
 {
-    if z < 0 {
-        return (0 - z) as u32;
-    }
-    z as u32
+    z.unsigned_abs() as u32
 }
 
 // How far apart two numbers are.

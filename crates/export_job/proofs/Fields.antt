@@ -27,12 +27,13 @@ use Rattle.export_job.specs.Lengths.{length-field, length-row, length-rows, fiel
 
 -- ---- threads
 
-first-thread : (s : List ℕ) → 3 ≤ length s → thread_fields s ≡ field_of 2 (take 3 s) ++ thread_fields (drop 3 s)
+thread-more : (s t u : List ℕ) → s ≡ t ++ u → length t ≡ 3 → thread_fields s ≡ field_of 2 t ++ thread_fields u
 unfolding thread_fields
-first-thread [] h = absurd (omega arith)
-first-thread (r ∷ []) h = absurd (omega arith)
-first-thread (r ∷ g ∷ []) h = absurd (omega arith)
-first-thread (r ∷ g ∷ b ∷ s) h = refl
+thread-more s [] u e h = absurd (omega arith)
+thread-more s (r ∷ []) u e h = absurd (omega arith)
+thread-more s (r ∷ g ∷ []) u e h = absurd (omega arith)
+thread-more s (r ∷ g ∷ b ∷ []) u e h = rw e
+thread-more s (r ∷ g ∷ b ∷ x ∷ t) u e h = absurd (omega arith)
 
 no-thread : (s : List ℕ) → length s < 3 → thread_fields s ≡ []
 unfolding thread_fields
@@ -41,34 +42,27 @@ no-thread (r ∷ []) h = refl
 no-thread (r ∷ g ∷ []) h = refl
 no-thread (r ∷ g ∷ b ∷ s) h = absurd (omega arith)
 
--- the bytes of the thread at i, as the code takes them
-abbrev thread_at : List ℕ → ℕ → List ℕ
-thread_at s i = take (i + 3 - i) (drop i s)
+-- the threads of `rest`, taken `size` bytes at a time, are still to come
+pub record ThreadLoop (s d₀ : List ℕ) (base : ℕ) (d : List ℕ) (to size : ℕ) (rest : List ℕ) : Type 0 where
+  pub three : size ≡ 3
+  pub writing : Writing d₀ base (thread_fields s) d to (thread_fields rest)
 
-thread-more : (s : List ℕ) (i : ℕ) → 3 ≤ length s - i → thread_fields (drop i s) ≡ field_of 2 (thread_at s i) ++ thread_fields (drop (i + 3) s)
-thread-more s i h =
-    let three : i + 3 - i ≡ 3 = omega arith in
-    rw (three, ← drop-drop 3 i s) (first-thread (drop i s) (omega (arith, length-drop i s)))
+pub thread-start : (s d : List ℕ) (base : ℕ) {size : ℕ} {rest : List ℕ} → base + length (thread_fields s) ≤ length d → size ≡ 3 → rest ≡ s
+    → ThreadLoop s d base d base size rest
+thread-start s d base h three e = record { three = three; writing = rw e (writing_start d base (thread_fields s) h) }
 
--- the threads from i on are still to come
-pub record ThreadLoop (s d₀ : List ℕ) (base : ℕ) (d : List ℕ) (to i : ℕ) : Type 0 where
-  pub inside : i ≤ length s
-  pub writing : Writing d₀ base (thread_fields s) d to (thread_fields (drop i s))
+module _ {s d₀ d : List ℕ} {base to size : ℕ} {rest : List ℕ} (t : ThreadLoop s d₀ base d to size rest) where
+  module _ (thread more : List ℕ) (e : rest ≡ thread ++ more) (l : length thread ≡ size) where
+    pub thread-room : to + (3 + length thread) ≤ length d
+    thread-room =
+        rw (length-field 2 thread) at
+        (writing-room (field_of 2 thread) (thread_fields more) t.writing (thread-more rest thread more e (l ∙ t.three)))
 
-pub thread-start : (s d : List ℕ) (base : ℕ) → base + length (thread_fields s) ≤ length d → ThreadLoop s d base d base 0
-thread-start s d base h = record { inside = omega arith; writing = writing_start d base (thread_fields s) h }
+    pub thread-on : {d' : List ℕ} {m size' : ℕ} → Put d d' to m (field_of 2 thread) → size' ≡ size → ThreadLoop s d₀ base d' m size' more
+    thread-on p k = record { three = k ∙ t.three; writing = writing_more t.writing (thread-more rest thread more e (l ∙ t.three)) p }
 
-module _ {s d₀ d : List ℕ} {base to i : ℕ} (t : ThreadLoop s d₀ base d to i) where
-  pub thread-room : 3 ≤ length s - i → to + (3 + length (thread_at s i)) ≤ length d
-  thread-room h =
-      rw (length-field 2 (thread_at s i)) at
-      (writing-room (field_of 2 (thread_at s i)) (thread_fields (drop (i + 3) s)) t.writing (thread-more s i h))
-
-  pub thread-on : {d' : List ℕ} {m : ℕ} → 3 ≤ length s - i → Put d d' to m (field_of 2 (thread_at s i)) → ThreadLoop s d₀ base d' m (i + 3)
-  thread-on h p = record { inside = omega arith; writing = writing_more t.writing (thread-more s i h) p }
-
-  pub thread-done : length s - i < 3 → Put d₀ d base to (thread_fields s)
-  thread-done h = writing-done t.writing (no-thread (drop i s) (omega (arith, length-drop i s)))
+  pub thread-done : length rest < size → Put d₀ d base to (thread_fields s)
+  thread-done h = writing-done t.writing (no-thread rest (omega (arith, t.three)))
 
 -- ---- the commands of a field
 

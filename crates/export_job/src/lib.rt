@@ -11,7 +11,7 @@ ghost use Rattle.export_job.specs.Lists.{Known, field_between, job_length};
 
 use emit::{low16, put, put_short, put_text};
 use formats::list_len;
-use rules::{ExportAnswer, FIELD_COMMANDS, LONGEST_NAME, Refusal, Verdict};
+use rules::{FIELD_COMMANDS, LONGEST_NAME, Refusal};
 use write_refusals::check_commands;
 
 // A field of any content that two bytes count.
@@ -30,11 +30,8 @@ fn put_threads(threads: &[u8], out: &mut [u8], at: usize) -> usize
     ensures { Puts out at result (thread_fields threads.now) }
 {
     let mut to = at;
-    let mut i = 0;
-    while 3 <= threads.len() - i {
-        let e = i + 3;
-        to = put_field(2, &threads[i..e], out, to);
-        i = e;
+    for thread in threads.chunks_exact(3) {
+        to = put_field(2, thread, out, to);
     }
     to
 }
@@ -68,10 +65,8 @@ fn put_commands(
     let len = 5 * (e - i);
     let head = put(out, at, 3);
     let mut to = put_short(out, head, len);
-    let mut k = i;
-    while k < e {
+    for k in i..e {
         to = put_row(kinds[k], xs[k], ys[k], out, to);
-        k += 1;
     }
     to
 }
@@ -81,10 +76,7 @@ fn field_end(i: usize, n: usize) -> usize
     requires { i ≤ n }
     ensures { result ≡ i + min 1000 (n - i) }
 {
-    if FIELD_COMMANDS < n - i {
-        return i + FIELD_COMMANDS;
-    }
-    n
+    i + FIELD_COMMANDS.min(n - i)
 }
 
 // All commands, 1,000 to a field.
@@ -96,6 +88,7 @@ fn put_list(xs: &[i32], ys: &[i32], kinds: &[u8], out: &mut [u8], at: usize) -> 
     let n = list_len(xs, ys, kinds);
     let mut to = at;
     let mut i = 0;
+    // Kept as while: each turn goes on by a whole field.
     while i < n {
         let e = field_end(i, n);
         to = put_commands(xs, ys, kinds, i, e, out, to);
@@ -120,18 +113,18 @@ fn export_accepted(
     kinds: &[u8],
     threads: &[u8],
     out: &mut [u8],
-) -> ExportAnswer
+) -> Result<usize, Refusal>
     requires { Known xs.now ys.now kinds.now × ((length name.now ≤ 64) × (length threads.now / 3 ≤ 255)) }
     ensures { Answered export_answer (job_of name.now (commands xs.now ys.now kinds.now) threads.now) out.old out.new result }
 {
     let n = job_len(name.len(), list_len(xs, ys, kinds), threads.len());
     if out.len() < n {
-        return ExportAnswer::NotExported(Refusal::BufferTooShort);
+        return Err(Refusal::BufferTooShort);
     }
     let first = put_field(1, name, out, 0);
     let second = put_threads(threads, out, first);
     let end = put_list(xs, ys, kinds, out, second);
-    ExportAnswer::Exported(end)
+    Ok(end)
 }
 
 // Exports a list and its threads as a job with a name, to the front of the buffer: the job's length, and cells behind it stay; or why it is
@@ -143,15 +136,12 @@ pub fn export_job(
     kinds: &[u8],
     threads: &[u8],
     out: &mut [u8],
-) -> ExportAnswer
+) -> Result<usize, Refusal>
     ensures { Exported name.now xs.now ys.now kinds.now threads.now out.old out.new result }
 {
     if LONGEST_NAME < name.len() {
-        return ExportAnswer::NotExported(Refusal::BadLength);
+        return Err(Refusal::BadLength);
     }
-    let checked = check_commands(xs, ys, kinds, threads);
-    match checked {
-        Verdict::Accepted => export_accepted(name, xs, ys, kinds, threads, out),
-        Verdict::Refused(why) => ExportAnswer::NotExported(why),
-    }
+    check_commands(xs, ys, kinds, threads)?;
+    export_accepted(name, xs, ys, kinds, threads, out)
 }

@@ -2,26 +2,20 @@
 // edges included, and else `no`. The numbers are tenths of a millimetre. What is refused or fails is told on standard error.
 #![tactic(auto)]
 
-use command_line::{
-    FileAnswer, NumberAnswer, argument, extension, is_given, number_in, read_file, refused, usage,
-};
+ghost use Rattle.std.specs.Prelude.{IfSome};
+ghost use Rattle.command_line.specs.Files.{IsPrefixLen};
+
+use command_line::{argument, extension, is_given, number_in, read_file, refused, usage};
 use formats::extension_of;
-use rules::{Extension, FitsAnswer, Hoop, Refusal};
+use rules::{Hoop, Refusal};
 use std::io;
 use std::rt::{Env, Files};
 
-// The hoop that the arguments give, or that one of them is no number.
-#[derive(Clone, Copy)]
-enum HoopAnswer {
-    Given(Hoop),
-    Wrong,
-}
-
-fn tell(out: &impl Print, err: &impl Print, answer: FitsAnswer) -> io::Result<()> {
+fn tell(out: &impl Print, err: &impl Print, answer: Result<bool, Refusal>) -> io::Result<()> {
     match answer {
-        FitsAnswer::Yes => println!(out; "yes"),
-        FitsAnswer::No => println!(out; "no"),
-        FitsAnswer::Unread(why) => {
+        Ok(true) => println!(out; "yes"),
+        Ok(false) => println!(out; "no"),
+        Err(why) => {
             refused(err, why);
             Ok(())
         }
@@ -35,11 +29,10 @@ fn read_and_tell<R: Files + Print>(
     h: Hoop,
     bytes: &mut [u8],
 ) -> io::Result<()> {
-    let answer = read_file(rt, err, name, bytes);
-    let FileAnswer::Read(n) = answer else {
+    let Ok(n) = read_file(rt, err, name, bytes) else {
         return Ok(());
     };
-    let told = stitch_box::fits(
+    let answer = stitch_box::fits(
         extension(name),
         &bytes[..n],
         h.left,
@@ -47,7 +40,7 @@ fn read_and_tell<R: Files + Print>(
         h.top,
         h.bottom,
     );
-    tell(rt, err, told)
+    tell(rt, err, answer)
 }
 
 // The prover takes an array as long as this as a slice only through a reference.
@@ -69,74 +62,48 @@ fn run<R: Files + Print>(rt: &R, err: &impl Print, name: &[u8], h: Hoop) -> io::
 
 // The extension is asked before the file is opened.
 fn fits<R: Files + Print>(rt: &R, err: &impl Print, name: &[u8], h: Hoop) -> io::Result<()> {
-    let named = extension_of(extension(name));
-    match named {
-        Extension::Of(_) => run(rt, err, name, h),
-        Extension::Unknown => {
-            refused(err, Refusal::UnknownExtension);
-            Ok(())
-        }
+    if extension_of(extension(name)).is_none() {
+        refused(err, Refusal::UnknownExtension);
+        return Ok(());
     }
+    run(rt, err, name, h)
 }
 
 // Argument i as a number.
-fn number_at(rt: &impl Env, i: usize) -> NumberAnswer {
+fn number_at(rt: &impl Env, i: usize) -> Option<i32> {
     let mut text = [0u8; 4096];
-    let got = argument(rt, i, &mut text);
-    if !got.whole {
-        return NumberAnswer::Wrong;
-    }
-    let n = got.len;
+    let n = argument(rt, i, &mut text)?;
     number_in(&text[..n])
 }
 
 // Arguments 2 to 5 as a hoop.
-fn hoop_given(rt: &impl Env) -> HoopAnswer {
-    let left = number_at(rt, 2);
-    let NumberAnswer::Number(l) = left else {
-        return HoopAnswer::Wrong;
-    };
-    let right = number_at(rt, 3);
-    let NumberAnswer::Number(r) = right else {
-        return HoopAnswer::Wrong;
-    };
-    let top = number_at(rt, 4);
-    let NumberAnswer::Number(t) = top else {
-        return HoopAnswer::Wrong;
-    };
-    let bottom = number_at(rt, 5);
-    let NumberAnswer::Number(b) = bottom else {
-        return HoopAnswer::Wrong;
-    };
-    HoopAnswer::Given(Hoop {
-        left: l,
-        right: r,
-        top: t,
-        bottom: b,
+fn hoop_given(rt: &impl Env) -> Option<Hoop> {
+    Some(Hoop {
+        left: number_at(rt, 2)?,
+        right: number_at(rt, 3)?,
+        top: number_at(rt, 4)?,
+        bottom: number_at(rt, 5)?,
     })
 }
 
-fn wrong_arguments(err: &impl Print) {
-    usage(err, b"fits FILE LEFT RIGHT TOP BOTTOM");
+// The length of the file's name, argument 1, and the hoop, if these are all arguments.
+fn arguments(rt: &impl Env, name: &mut [u8]) -> Option<(usize, Hoop)>
+    ensures { IfSome result (λ a. IsPrefixLen a.0 name.new) }
+{
+    let n = argument(rt, 1, name)?;
+    let h = hoop_given(rt)?;
+    if is_given(rt, 6) {
+        return None;
+    }
+    Some((n, h))
 }
 
 fn main(rt: HostRuntime) -> io::Result<()> {
     let err = rt.stderr();
     let mut name = [0u8; 4096];
-    let first = argument(&rt, 1, &mut name);
-    if is_given(&rt, 6) {
-        wrong_arguments(&err);
-        return Ok(());
-    }
-    if !first.whole {
-        wrong_arguments(&err);
-        return Ok(());
-    }
-    let given = hoop_given(&rt);
-    let HoopAnswer::Given(h) = given else {
-        wrong_arguments(&err);
+    let Some((n, h)) = arguments(&rt, &mut name) else {
+        usage(&err, "fits FILE LEFT RIGHT TOP BOTTOM");
         return Ok(());
     };
-    let n = first.len;
     fits(&rt, &err, &name[..n], h)
 }

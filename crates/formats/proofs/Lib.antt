@@ -1,3 +1,4 @@
 pub mod Distances
 pub mod Framing
 pub mod Leads
+pub mod Names

@@ -2,16 +2,17 @@
 // A port of src/formats/mod.rs of zigzag, changed.
 #![tactic(auto)]
 
-ghost use Rattle.std.specs.Prelude.{◌≡◌, true, false, [], ◌∷◌, ◌≤◌, min, max, length};
-ghost use Rattle.rules.specs.Lists.{op_of, commands, min_z, max_z};
-ghost use Rattle.rules.specs.Refusals.{lower, named, extension_of, place_outside};
-ghost use Rattle.rules.specs.Choices.{half_to_even, gap, weighed, distance, same_color, away, nearest_answer, pec_palette};
+ghost use Rattle.std.specs.Prelude.{◌≡◌, true, false, ◌+◌, ◌≤◌, eqb, length};
+ghost use Rattle.rules.specs.Lists.{op_of, commands};
+ghost use Rattle.rules.specs.Refusals.{extension_of, place_outside};
+ghost use Rattle.rules.specs.Choices.{half_to_even, gap, weighed, distance, away, nearest_answer, with_distance, pec_palette};
+ghost use Rattle.laws.specs.Choosing.{choice};
 ghost use Rattle.geom.specs.Frames.{bounds_of};
 ghost use Rattle.formats.specs.Closer.{takes_over, closer_of};
 
 use geom::{Bounds, P};
 pub use rules::{Cmd, Op};
-use rules::{Color, Extension, Format, Nearest, Slot};
+use rules::{Color, Format};
 
 // The operation that a kind stands for; a kind over 4 is refused elsewhere.
 pub fn op_of(kind: u8) -> Op
@@ -26,71 +27,43 @@ pub fn op_of(kind: u8) -> Op
     }
 }
 
-fn lower(b: u8) -> u8
-    ensures { result ≡ lower b }
+// Whether two kinds are both 0, a stitch, by one test.
+pub fn are_stitches(a: u8, b: u8) -> bool
+    ensures { result ≡ eqb (a + b) 0 }
 {
-    if b < 0x41 {
-        return b;
-    }
-    if 0x5A < b {
-        return b;
-    }
-    b + 0x20
-}
-
-// Whether an extension is three given small letters, without regard to case.
-fn is_named(ext: &[u8], a: u8, b: u8, c: u8) -> bool
-    ensures { result ≡ named ext.now (a ∷ b ∷ c ∷ []) }
-{
-    if ext.len() != 3 {
-        return false;
-    }
-    if lower(ext[0]) != a {
-        return false;
-    }
-    if lower(ext[1]) != b {
-        return false;
-    }
-    lower(ext[2]) == c
+    (a as u16) + (b as u16) == 0
 }
 
 // The format that an extension names.
-pub fn extension_of(ext: &[u8]) -> Extension
+pub fn extension_of(ext: &[u8]) -> Option<Format>
     ensures { result ≡ extension_of ext.now }
 {
-    if is_named(ext, 0x70, 0x65, 0x73) {
-        return Extension::Of(Format::Pes);
+    if ext.eq_ignore_ascii_case(b"pes") {
+        return Some(Format::Pes);
     }
-    if is_named(ext, 0x70, 0x65, 0x63) {
-        return Extension::Of(Format::Pec);
+    if ext.eq_ignore_ascii_case(b"pec") {
+        return Some(Format::Pec);
     }
-    if is_named(ext, 0x64, 0x73, 0x74) {
-        return Extension::Of(Format::Dst);
+    if ext.eq_ignore_ascii_case(b"dst") {
+        return Some(Format::Dst);
     }
-    if is_named(ext, 0x65, 0x78, 0x70) {
-        return Extension::Of(Format::Exp);
+    if ext.eq_ignore_ascii_case(b"exp") {
+        return Some(Format::Exp);
     }
-    if is_named(ext, 0x6A, 0x65, 0x66) {
-        return Extension::Of(Format::Jef);
+    if ext.eq_ignore_ascii_case(b"jef") {
+        return Some(Format::Jef);
     }
-    if is_named(ext, 0x76, 0x70, 0x33) {
-        return Extension::Of(Format::Vp3);
+    if ext.eq_ignore_ascii_case(b"vp3") {
+        return Some(Format::Vp3);
     }
-    Extension::Unknown
-}
-
-fn smaller(a: usize, b: usize) -> usize
-    ensures { result ≡ min a b }
-{
-    if a <= b { a } else { b }
+    None
 }
 
 // How many commands three slices hold.
 pub fn list_len(xs: &[i32], ys: &[i32], kinds: &[u8]) -> usize
     ensures { result ≡ length (commands xs.now ys.now kinds.now) }
 {
-    let n = smaller(xs.len(), ys.len());
-    smaller(n, kinds.len())
+    xs.len().min(ys.len()).min(kinds.len())
 }
 
 // The bounds of every command's place; (0, 0) alone where there is none.
@@ -102,27 +75,14 @@ pub fn stream_bounds(xs: &[i32], ys: &[i32], kinds: &[u8]) -> Bounds
         return Bounds::empty().add(P::new(0, 0));
     }
     let mut b = Bounds::empty();
-    let mut i = 0;
-    while i < n {
+    for i in 0..n {
         b = b.add(P::new(xs[i], ys[i]));
-        i += 1;
     }
     b
 }
 
-fn least(a: i16, b: i16) -> i16
-    ensures { result ≡ min_z a b }
-{
-    if a <= b { a } else { b }
-}
-
-fn greatest(a: i16, b: i16) -> i16
-    ensures { result ≡ max_z a b }
-{
-    if a <= b { b } else { a }
-}
-
 // The same where every place lies from -16,000 to 16,000, in numbers of 16 bits.
+// Kept beside `stream_bounds`: 16 bits are what the loop was made fast by (docs/DECISIONS.md, 56).
 pub fn near_bounds(xs: &[i32], ys: &[i32], kinds: &[u8]) -> Bounds
     requires { place_outside (commands xs.now ys.now kinds.now) ≡ false }
     ensures { result ≡ bounds_of (commands xs.now ys.now kinds.now) }
@@ -135,15 +95,13 @@ pub fn near_bounds(xs: &[i32], ys: &[i32], kinds: &[u8]) -> Bounds
     let mut y0: i16 = 32767;
     let mut x1: i16 = -32768;
     let mut y1: i16 = -32768;
-    let mut i = 0;
-    while i < n {
+    for i in 0..n {
         let x = xs[i] as i16;
         let y = ys[i] as i16;
-        x0 = least(x0, x);
-        y0 = least(y0, y);
-        x1 = greatest(x1, x);
-        y1 = greatest(y1, y);
-        i += 1;
+        x0 = x0.min(x);
+        y0 = y0.min(y);
+        x1 = x1.max(x);
+        y1 = y1.max(y);
     }
     Bounds {
         min: P::new(x0 as i32, y0 as i32),
@@ -182,36 +140,14 @@ pub fn color_distance(a: Color, b: Color) -> u32
     weighed(m, gap(a.0, b.0), gap(a.1, b.1), gap(a.2, b.2))
 }
 
-pub fn same_color(a: Color, b: Color) -> bool
-    ensures { result ≡ same_color a b }
-{
-    if a.0 != b.0 {
-        return false;
-    }
-    if a.1 != b.1 {
-        return false;
-    }
-    a.2 == b.2
-}
-
 // How far a colour is from the thread of an entry; 0 where it has none.
-pub fn away(color: Color, s: Slot) -> u32
+pub fn away(color: Color, s: Option<Color>) -> u32
     ensures { result ≡ away color s }
 {
-    let Slot::Thread(t) = s else {
+    let Some(t) = s else {
         return 0;
     };
     color_distance(color, t)
-}
-
-// The larger of two distances.
-pub fn larger(d: u32, e: u32) -> u32
-    ensures { result ≡ max d e }
-{
-    if d < e {
-        return e;
-    }
-    d
 }
 
 // Where what was put ends, and the largest distance between a thread and the chart's own colour of the entry put for it.
@@ -221,52 +157,65 @@ pub struct Matched {
     pub distance: u32,
 }
 
-// Whether a thread at distance d takes the lead from what was found.
-fn takes(best: Nearest, d: u32) -> bool
-    ensures { result ≡ takes_over best d }
+// Whether a thread at distance d takes the lead from what was found: of equal distances the later one or the first.
+fn takes(later: bool, best: Option<(usize, u32)>, d: u32) -> bool
+    ensures { result ≡ takes_over later best d }
 {
-    let Nearest::Near(_, e) = best else {
+    let Some((_, e)) = best else {
         return true;
     };
-    d <= e
+    if later {
+        return d <= e;
+    }
+    d < e
 }
 
-// The nearest entry after entry i; of equal distances the later one.
-fn closer(color: Color, best: Nearest, s: Slot, i: usize) -> Nearest
-    ensures { result ≡ closer_of color best s i }
+// The nearest entry after entry i.
+fn closer(
+    later: bool,
+    color: Color,
+    best: Option<(usize, u32)>,
+    s: Option<Color>,
+    i: usize,
+) -> Option<(usize, u32)>
+    ensures { result ≡ closer_of later color best s i }
 {
-    let Slot::Thread(t) = s else {
+    let Some(t) = s else {
         return best;
     };
     let d = color_distance(color, t);
-    if takes(best, d) {
-        return Nearest::Near(i, d);
+    if takes(later, best, d) {
+        return Some((i, d));
     }
     best
 }
 
-// The entry at the least distance, and the distance; of equal distances the later.
-pub fn nearest_index(color: Color, palette: [Slot; 65]) -> Nearest
-    ensures { result ≡ nearest_answer color palette }
+// The entry at the least distance, and the distance; of equal distances the later or the first.
+pub fn nearest(later: bool, color: Color, palette: &[Option<Color>]) -> Option<(usize, u32)>
+    ensures { result ≡ with_distance color palette.now (choice later color palette.now) }
 {
-    let mut best = Nearest::NoThread;
-    let mut i = 0;
-    while i < 65 {
-        best = closer(color, best, palette[i], i);
-        i += 1;
+    let mut best = None;
+    for i in 0..palette.len() {
+        best = closer(later, color, best, palette[i], i);
     }
     best
+}
+
+// PEC's choice: of equal distances the later.
+#[tactic(auto, unfolding(rules::specs::Choices::nearest_answer))]
+pub fn nearest_index(color: Color, palette: [Option<Color>; 65]) -> Option<(usize, u32)>
+    ensures { result ≡ nearest_answer color palette }
+{
+    nearest(true, color, &palette)
 }
 
 // The entries of PEC's chart that may be chosen.
-pub fn pec_palette() -> [Slot; 65]
+pub fn pec_palette() -> [Option<Color>; 65]
     ensures { result ≡ pec_palette }
 {
-    let mut out = [Slot::Empty; 65];
-    let mut i = 1;
-    while i < 65 {
-        out[i] = Slot::Thread(pec_data::pec_thread(i));
-        i += 1;
+    let mut out = [None; 65];
+    for i in 1..65 {
+        out[i] = Some(pec_data::pec_thread(i));
     }
     out
 }

@@ -1,2 +1,3 @@
 -- Lemmas for those who use bounds.
+pub mod Extremes
 pub mod Sizes

@@ -2,9 +2,8 @@
 // A port of src/geom.rs of zigzag, changed.
 #![tactic(auto)]
 
-ghost use Rattle.std.specs.Prelude.{◌≡◌, ◌-ℤ◌};
+ghost use Rattle.std.specs.Prelude.{◌≡◌, ◌<◌, ◌^◌, nat_abs, ◌-ℤ◌};
 ghost use Rattle.std.specs.Int.Signed.{lt_z};
-ghost use Rattle.rules.specs.Lists.{min_z, max_z};
 ghost use Rattle.geom.specs.Frames.{place, frame, nothing, added, width_of, height_of};
 
 #[derive(Clone, Copy)]
@@ -19,18 +18,6 @@ pub struct Bounds {
     pub max: P,
 }
 
-fn min(a: i32, b: i32) -> i32
-    ensures { result ≡ min_z a b }
-{
-    if a <= b { a } else { b }
-}
-
-fn max(a: i32, b: i32) -> i32
-    ensures { result ≡ max_z a b }
-{
-    if a <= b { b } else { a }
-}
-
 // The difference b - a.
 pub fn span(a: i32, b: i32) -> i64
     ensures { result ≡ b -ℤ a }
@@ -38,17 +25,25 @@ pub fn span(a: i32, b: i32) -> i64
     (b as i64) - (a as i64)
 }
 
+// The same between two places on an axis, where it fits 32 bits.
+pub fn step(from: i32, to: i32) -> i32
+    requires { nat_abs (to -ℤ from) < 2 ^ 31 }
+    ensures { result ≡ to -ℤ from }
+{
+    to - from
+}
+
 fn widened(x0: i32, y0: i32, x1: i32, y1: i32, x: i32, y: i32) -> Bounds
     ensures { result ≡ added (frame x0 y0 x1 y1) (place x y) }
 {
     Bounds {
         min: P {
-            x: min(x0, x),
-            y: min(y0, y),
+            x: x0.min(x),
+            y: y0.min(y),
         },
         max: P {
-            x: max(x1, x),
-            y: max(y1, y),
+            x: x1.max(x),
+            y: y1.max(y),
         },
     }
 }

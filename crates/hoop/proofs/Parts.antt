@@ -1,4 +1,5 @@
 -- What a file's opening says, as an answer of `fits`. Assumes nothing.
+use Rattle.std.specs.Prelude.{Some, Ok, Err}
 use Prim.Native.Nat.{ℕ}
 use mathlib.Core.Path.{◌≡◌, refl, sym}
 use mathlib.Core.Bool.{Bool}
@@ -10,8 +11,6 @@ use Rattle.rules.specs.Hoop.{all_in_hoop, fits_answer, fits_told}
 use Rattle.rules.specs.Pec.{pec_events}
 use Rattle.rules.specs.Refusals.{verdict}
 use Rattle.rules.specs.Vocabulary.{pick}
-use Rattle.rules.specs.declared.Extension.TheVariants.{Of}
-use Rattle.rules.specs.declared.FitsAnswer.TheVariants.{Yes, No, Unread}
 use Rattle.rules.specs.declared.Format.{Format}
 use Rattle.rules.specs.declared.Format.TheVariants.{Pes, Pec, Dst, Exp, Jef, Vp3}
 use Rattle.rules.specs.declared.Hoop.{Hoop}
@@ -19,7 +18,6 @@ use Rattle.rules.specs.declared.Refusal.{Refusal}
 use Rattle.read_records.specs.Firsts.{first_record_of}
 use Rattle.read_refusals.specs.Openings.{head_of, front_of}
 use Rattle.read_refusals.specs.declared.Head.{Head}
-use Rattle.read_refusals.specs.declared.Opening.TheVariants.{At, Not}
 use Rattle.read.proofs.Openings.{begun, refused}
 use Rattle.read.specs.Answered.{events_by}
 
@@ -35,13 +33,13 @@ by-head Vp3 s = refl
 
 module _ (f : Format) (s : List ℕ) (h : Hoop) where
   -- the file is refused
-  pub not-told : {r : Refusal} → front_of f s ≡ Not r → Unread r ≡ fits_told (Of f) s h
+  pub not-told : {r : Refusal} → front_of f s ≡ Err r → Err r ≡ fits_told (Some f) s h
   unfolding front_of fits_told file_verdict fits_answer
   not-told e = rw (refused (verdict (file_refusals f s)) (head_of f s) e)
 
   -- it is not, and the places decide
-  pub is-told : {k : Head} {b : Bool} → front_of f s ≡ At k → b ≡ all_in_hoop h (places (pos 0) (pos 0) 0 (events_by k s))
-      → pick b Yes No ≡ fits_told (Of f) s h
+  pub is-told : {k : Head} {b : Bool} → front_of f s ≡ Ok k → b ≡ all_in_hoop h (places (pos 0) (pos 0) 0 (events_by k s))
+      → Ok b ≡ fits_told (Some f) s h
   unfolding front_of fits_told file_verdict fits_answer places_told
   is-told {k} {b} e t =
       let o = begun (verdict (file_refusals f s)) (head_of f s) e in

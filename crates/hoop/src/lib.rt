@@ -1,21 +1,19 @@
 // Whether what a file sews lies in a hoop, without a buffer: every place is looked at as it is read, up to the first that is outside.
 #![tactic(auto)]
 
-ghost use Rattle.std.specs.Prelude.{◌≡◌, pos};
+ghost use Rattle.std.specs.Prelude.{◌≡◌, pos, Some, Ok};
 ghost use Rattle.rules.specs.Answers.{places};
 ghost use Rattle.rules.specs.Hoop.{all_in_hoop, fits_told};
 ghost use Rattle.rules.specs.Refusals.{extension_of};
 ghost use Rattle.rules.specs.Vocabulary.{pick};
-ghost use Rattle.rules.specs.declared.Extension.TheVariants.{Of};
-ghost use Rattle.rules.specs.declared.FitsAnswer.TheVariants.{Yes, No};
 ghost use Rattle.read.specs.Answered.{Opened, events_by};
 
 use formats::extension_of;
 use hoop_records::fits_records;
 use read::{jef_stitches, rest};
 use read_records::Row;
-use read_refusals::{Head, Opening, front};
-use rules::{DST_HEADER, Extension, FitsAnswer, Format, Hoop, Refusal};
+use read_refusals::{Head, front};
+use rules::{DST_HEADER, Format, Hoop, Refusal};
 
 // A file that is not refused, by what its opening gave.
 fn fits_part(head: Head, h: Hoop, file: &[u8]) -> bool
@@ -31,34 +29,28 @@ fn fits_part(head: Head, h: Hoop, file: &[u8]) -> bool
     }
 }
 
-fn answer(inside: bool) -> FitsAnswer
-    ensures { result ≡ pick inside Yes No }
-{
-    if inside {
-        return FitsAnswer::Yes;
-    }
-    FitsAnswer::No
-}
-
 // A file of format f.
-fn fits_stitch_file(f: Format, h: Hoop, file: &[u8]) -> FitsAnswer
-    ensures { result ≡ fits_told (Of f) file.now h }
+fn fits_stitch_file(f: Format, h: Hoop, file: &[u8]) -> Result<bool, Refusal>
+    ensures { result ≡ fits_told (Some f) file.now h }
 {
-    let found = front(f, file);
-    match found {
-        Opening::At(head) => answer(fits_part(head, h, file)),
-        Opening::Not(why) => FitsAnswer::Unread(why),
-    }
+    let head = front(f, file)?;
+    Ok(fits_part(head, h, file))
 }
 
 // Whether every place of every run of a file has x from left to right and y from top to bottom, edges included; or why the file is
 // refused, by every refusal of reading but 11. A file without runs is a yes.
-pub fn fits(ext: &[u8], file: &[u8], left: i32, right: i32, top: i32, bottom: i32) -> FitsAnswer
+pub fn fits(
+    ext: &[u8],
+    file: &[u8],
+    left: i32,
+    right: i32,
+    top: i32,
+    bottom: i32,
+) -> Result<bool, Refusal>
     ensures { result ≡ fits_told (extension_of ext.now) file.now (record { left = left; right = right; top = top; bottom = bottom }) }
 {
-    let named = extension_of(ext);
-    let Extension::Of(f) = named else {
-        return FitsAnswer::Unread(Refusal::UnknownExtension);
+    let Some(f) = extension_of(ext) else {
+        return Err(Refusal::UnknownExtension);
     };
     let h = Hoop {
         left,

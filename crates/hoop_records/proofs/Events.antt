@@ -1,4 +1,5 @@
 -- One event: what is seen of it, and then what is to come, are what was to come; and so from turn to turn. Assumes nothing.
+use Rattle.std.specs.Prelude.{Some, None, Option}
 use Prim.Native.Nat.{ℕ, suc, ◌+◌}
 use mathlib.Core.Path.{◌≡◌, refl, sym, ap, ◌∙◌}
 use mathlib.Core.Bool.{Bool, true, false, ◌&&◌, and_assoc}
@@ -12,8 +13,6 @@ use Rattle.rules.specs.declared.Hoop.{Hoop}
 use Rattle.laws.specs.Tests.{by-test}
 use Rattle.hoop_records.specs.Looks.{stepped, sewn, sewn_more, fits_from, fits_on, Looked}
 use Rattle.hoop_records.specs.declared.looks.Look.{Look}
-use Rattle.hoop_records.specs.declared.looks.Seen.{Seen}
-use Rattle.hoop_records.specs.declared.looks.Seen.TheVariants.{On, Outside}
 
 -- the places to come do not ask how many points the open run has
 open-alike : (x y : ℤ) (n m : ℕ) (es : List Event) → places x y (suc n) es ≡ places x y (suc m) es
@@ -25,7 +24,7 @@ open-alike x y n m (change dx dy ∷ es) = refl
 
 module _ (h : Hoop) where
   -- a test, and then the rest
-  seen-on : (b : Bool) (w : Look) (es : ℕ → List Event) → b && fits_from h w (es w.at) ≡ fits_on h (pick b (On w) Outside) es
+  seen-on : (b : Bool) (w : Look) (es : ℕ → List Event) → b && fits_from h w (es w.at) ≡ fits_on h (pick b (Some w) None) es
   seen-on true w es = refl
   seen-on false w es = refl
 
@@ -54,9 +53,9 @@ module _ (h : Hoop) where
 
 -- ---- one stitch more, if the one before is in the hoop
 
-pub looks-more : {h : Hoop} {es : ℕ → List Event} {O : Look → Seen → Type 0} {w v : Look} (dx dy : ℤ) (n : ℕ) (b : Bool)
-    → ((r : Seen) → O v r → O w r) → Looked h es O w (pick b (On v) Outside) → Looked h es O v (sewn h v dx dy n)
-    → Looked h es O w (sewn_more h (pick b (On v) Outside) dx dy n)
+pub looks-more : {h : Hoop} {es : ℕ → List Event} {O : Look → Option Look → Type 0} {w v : Look} (dx dy : ℤ) (n : ℕ) (b : Bool)
+    → ((r : Option Look) → O v r → O w r) → Looked h es O w (pick b (Some v) None) → Looked h es O v (sewn h v dx dy n)
+    → Looked h es O w (sewn_more h (pick b (Some v) None) dx dy n)
 looks-more dx dy n true t p q = record { same = p.same ∙ q.same; onward = t _ q.onward }
 looks-more dx dy n false t p q = p
 
@@ -71,11 +70,11 @@ module _ {h : Hoop} {es : ℕ → List Event} {L : Look → Type 0} where
   going_start g = record { looking = g; same = refl }
 
   module _ {first w : Look} (g : Going h es L first w) where
-    module _ {O : Look → Seen → Type 0} where
-      pub going_on : {v : Look} → Looked h es O w (On v) → L v → Going h es L first v
+    module _ {O : Look → Option Look → Type 0} where
+      pub going_on : {v : Look} → Looked h es O w (Some v) → L v → Going h es L first v
       going_on k l = record { looking = l; same = g.same ∙ k.same }
 
-      pub going-out : Looked h es O w Outside → false ≡ fits_from h first (es first.at)
+      pub going-out : Looked h es O w None → false ≡ fits_from h first (es first.at)
       going-out k = sym (g.same ∙ k.same)
 
     -- nothing is to come

@@ -1,4 +1,5 @@
 -- The records of a file looked at, one or two at once, and so on to the end. Assumes nothing.
+use Rattle.std.specs.Prelude.{Some, None, Option}
 use Prim.Native.Nat.{ℕ, ◌+◌, ◌≤◌, ◌<◌}
 use mathlib.Core.Path.{◌≡◌, refl, sym, ap, ◌∙◌}
 use mathlib.Core.Bool.{Bool, true, false, ◌&&◌}
@@ -23,8 +24,6 @@ use Rattle.read_passes.specs.Walks.{events_from}
 use Rattle.hoop_records.specs.Looks.{starts_in, stepped, placed_at, sewn, sewn_two, Leads, LeadsTwo, fits_from}
 use Rattle.hoop_records.specs.Rows.{Looking, Onward, Looks}
 use Rattle.hoop_records.specs.declared.looks.Look.{Look}
-use Rattle.hoop_records.specs.declared.looks.Seen.{Seen}
-use Rattle.hoop_records.specs.declared.looks.Seen.TheVariants.{On, Outside}
 use Rattle.hoop_records.proofs.Events.{fits-stitch, fits-jump, fits-change, looks-more, Going, going_done}
 
 module _ (f : Row) {bytes : List ℕ} {w : Look} (g : Looking bytes w) where
@@ -64,21 +63,21 @@ module _ (f : Row) {bytes : List ℕ} {w : Look} (g : Looking bytes w) where
           by-test (starts_in h w && in_hoop h (w.x +ℤ dx) (w.y +ℤ dy)) (λ t. rw t (near-still e true, omega (arith, k.fair))) (λ t. rw t tt);
     }
 
-    pub looks-jump : first_record_of f (drop w.at bytes) ≡ JumpBy dx dy n → Looks f h bytes w (On (stepped false w dx dy n))
+    pub looks-jump : first_record_of f (drop w.at bytes) ≡ JumpBy dx dy n → Looks f h bytes w (Some (stepped false w dx dy n))
     unfolding record_then
     looks-jump e = record {
       same = ap (fits_from h w) (now-then f bytes w.at (sym e)) ∙ fits-jump h w dx dy n (events_from f bytes);
       onward = let k = this f bytes w.at (sym e) in (near-still e false, omega (arith, k.fair));
     }
 
-    pub looks-change : first_record_of f (drop w.at bytes) ≡ ChangeBy dx dy n → Looks f h bytes w (On (stepped false w dx dy n))
+    pub looks-change : first_record_of f (drop w.at bytes) ≡ ChangeBy dx dy n → Looks f h bytes w (Some (stepped false w dx dy n))
     unfolding record_then
     looks-change e = record {
       same = ap (fits_from h w) (now-then f bytes w.at (sym e)) ∙ fits-change h w dx dy n (events_from f bytes);
       onward = let k = this f bytes w.at (sym e) in (near-still e false, omega (arith, k.fair));
     }
 
-  pub looks-end : {h : Hoop} → w.at < length bytes → first_record_of f (drop w.at bytes) ≡ Finish → Looks f h bytes w (On (placed_at w (length bytes)))
+  pub looks-end : {h : Hoop} → w.at < length bytes → first_record_of f (drop w.at bytes) ≡ Finish → Looks f h bytes w (Some (placed_at w (length bytes)))
   unfolding record_then
   looks-end {h} l e = record {
     same = ap (fits_from h w) (now-then f bytes w.at (sym e) ∙ sym (ended f bytes (length bytes) (omega arith)));
@@ -87,9 +86,9 @@ module _ (f : Row) {bytes : List ℕ} {w : Look} (g : Looking bytes w) where
 
 -- ---- two in a row
 
-onward_then : (bytes : List ℕ) (w v : Look) → w.at < v.at → (r : Seen) → Onward bytes v r → Onward bytes w r
-onward_then bytes w v l (On u) o = (o.0, omega (arith, o.1))
-onward_then bytes w v l Outside o = tt
+onward_then : (bytes : List ℕ) (w v : Look) → w.at < v.at → (r : Option Look) → Onward bytes v r → Onward bytes w r
+onward_then bytes w v l (Some u) o = (o.0, omega (arith, o.1))
+onward_then bytes w v l None o = tt
 
 module _ (f : Row) {bytes : List ℕ} {w : Look} (g : Looking bytes w) {dx dy ex ey : ℤ} {n : ℕ}
     (e : first_record_of f (drop w.at bytes) ≡ StitchBy dx dy n) (e₂ : first_record_of f (drop (w.at + n) bytes) ≡ StitchBy ex ey n) where

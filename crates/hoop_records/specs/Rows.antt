@@ -1,12 +1,10 @@
 -- A look at the records of a file, one after the other: what is to come is the same from turn to turn.
-use Rattle.std.specs.Prelude.{ℕ, ◌*◌, ◌≤◌, ◌<◌, List, nat_abs, length}
+use Rattle.std.specs.Prelude.{ℕ, ◌*◌, ◌≤◌, ◌<◌, List, nat_abs, length, Some, None, Option}
 use Rattle.rules.specs.declared.Hoop.{Hoop}
 use Rattle.read_records.specs.declared.Row.{Row}
 use Rattle.read_passes.specs.Walks.{events_from}
 use Rattle.hoop_records.specs.Looks.{Looked}
 use Rattle.hoop_records.specs.declared.looks.Look.{Look}
-use Rattle.hoop_records.specs.declared.looks.Seen.{Seen}
-use Rattle.hoop_records.specs.declared.looks.Seen.TheVariants.{On, Outside}
 
 -- near by the bytes that are behind
 pub record Looking (bytes : List ℕ) (w : Look) : Type 0 where
@@ -16,10 +14,10 @@ pub record Looking (bytes : List ℕ) (w : Look) : Type 0 where
   pub short : length bytes ≤ 2097152
 
 -- a later byte, unless a place is outside
-abbrev pub Onward : List ℕ → Look → Seen → Type 0
-Onward bytes w (On v) = Looking bytes v × (w.at < v.at)
-Onward bytes w Outside = Unit {0}
+abbrev pub Onward : List ℕ → Look → Option Look → Type 0
+Onward bytes w (Some v) = Looking bytes v × (w.at < v.at)
+Onward bytes w None = Unit {0}
 
 -- some records, one at least, from w on
-abbrev pub Looks : Row → Hoop → List ℕ → Look → Seen → Type 0
+abbrev pub Looks : Row → Hoop → List ℕ → Look → Option Look → Type 0
 Looks f h bytes w r = Looked h (events_from f bytes) (Onward bytes) w r

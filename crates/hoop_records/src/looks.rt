@@ -7,19 +7,13 @@ use read_builder::sum;
 use rules::Hoop;
 
 // The place; whether a run is open; and where the next record stands.
+// Kept as a flag: the place beside it stands whether a run is open or not.
 #[derive(Clone, Copy)]
 pub struct Look {
     pub x: i32,
     pub y: i32,
     pub running: bool,
     pub at: usize,
-}
-
-// That, or a place has been seen outside the hoop.
-#[derive(Clone, Copy)]
-pub enum Seen {
-    On(Look),
-    Outside,
 }
 
 // A look at nothing so far, from (x, y) on.
@@ -52,19 +46,19 @@ fn starts(h: Hoop, w: Look) -> bool
 }
 
 // A stitch by (dx, dy), in so many bytes. It opens a run if none is open.
-pub fn sew(h: Hoop, w: Look, dx: i32, dy: i32, len: usize) -> Seen
+pub fn sew(h: Hoop, w: Look, dx: i32, dy: i32, len: usize) -> Option<Look>
     requires { Leads w dx dy len }
     ensures { result ≡ sewn h w dx dy len }
 {
     let x = sum(w.x, dx);
     let y = sum(w.y, dy);
     if !starts(h, w) {
-        return Seen::Outside;
+        return None;
     }
     if !holds(h, x, y) {
-        return Seen::Outside;
+        return None;
     }
-    Seen::On(Look {
+    Some(Look {
         x,
         y,
         running: true,
@@ -73,13 +67,11 @@ pub fn sew(h: Hoop, w: Look, dx: i32, dy: i32, len: usize) -> Seen
 }
 
 // Two stitches in so many bytes each.
-pub fn sew_two(h: Hoop, w: Look, dx: i32, dy: i32, ex: i32, ey: i32, len: usize) -> Seen
+pub fn sew_two(h: Hoop, w: Look, dx: i32, dy: i32, ex: i32, ey: i32, len: usize) -> Option<Look>
     requires { LeadsTwo w dx dy ex ey len }
     ensures { result ≡ sewn_two h w dx dy ex ey len }
 {
-    let Seen::On(one) = sew(h, w, dx, dy, len) else {
-        return Seen::Outside;
-    };
+    let one = sew(h, w, dx, dy, len)?;
     sew(h, one, ex, ey, len)
 }
 
@@ -100,10 +92,5 @@ pub fn hop(w: Look, dx: i32, dy: i32, len: usize) -> Look
 pub fn pass_to(w: Look, at: usize) -> Look
     ensures { result ≡ placed_at w at }
 {
-    Look {
-        x: w.x,
-        y: w.y,
-        running: w.running,
-        at,
-    }
+    Look { at, ..w }
 }

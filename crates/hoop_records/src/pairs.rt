@@ -6,7 +6,7 @@ ghost use Rattle.read_records.specs.Tables.{Kinds};
 ghost use Rattle.read_passes.specs.Told.{places_in};
 ghost use Rattle.hoop_records.specs.Rows.{Looking, Looks};
 
-use crate::looks::{Look, Seen, hop, look_from, pass_to, sew, sew_two};
+use crate::looks::{Look, hop, look_from, pass_to, sew, sew_two};
 use crate::rest::fits_rest;
 use read_passes::last_turn;
 use read_records::bytes::{minus8, s8};
@@ -14,7 +14,7 @@ use read_records::pair::{kinds, row_of, step_x, step_y};
 use rules::Hoop;
 
 // A control.
-fn look_control(jef: bool, h: Hoop, w: Look, table: &[u8], bytes: &[u8]) -> Seen
+fn look_control(jef: bool, h: Hoop, w: Look, table: &[u8], bytes: &[u8]) -> Option<Look>
     requires kinds { Kinds jef table.now }
     requires at_in_bounds { w.at + 4 ≤ length bytes.now }
     requires at_value { get_or bytes.now w.at 0 ≡ 0x80 }
@@ -30,12 +30,12 @@ fn look_control(jef: bool, h: Hoop, w: Look, table: &[u8], bytes: &[u8]) -> Seen
         return sew(h, w, dx, dy, 4);
     }
     if k == 3 {
-        return Seen::On(pass_to(w, bytes.len()));
+        return Some(pass_to(w, bytes.len()));
     }
-    Seen::On(hop(w, dx, dy, 4))
+    Some(hop(w, dx, dy, 4))
 }
 
-fn look_pair(jef: bool, h: Hoop, w: Look, table: &[u8], bytes: &[u8]) -> Seen
+fn look_pair(jef: bool, h: Hoop, w: Look, table: &[u8], bytes: &[u8]) -> Option<Look>
     requires kinds { Kinds jef table.now }
     requires at_in_bounds { w.at + 4 ≤ length bytes.now }
     requires looking { Looking bytes.now w }
@@ -60,8 +60,9 @@ pub fn fits_pairs(jef: bool, h: Hoop, bytes: &[u8]) -> bool
     let table = kinds(jef);
     let mut w = look_from(0, 0);
     let end = last_turn(bytes.len(), 4);
+    // Kept as while: each turn goes on by its record's own length.
     while w.at < end {
-        let Seen::On(next) = look_pair(jef, h, w, &table, bytes) else {
+        let Some(next) = look_pair(jef, h, w, &table, bytes) else {
             return false;
         };
         w = next;

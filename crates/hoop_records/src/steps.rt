@@ -8,7 +8,7 @@ ghost use Rattle.read_records.specs.declared.Row.TheVariants.{Pec};
 ghost use Rattle.read_passes.specs.Told.{places_in};
 ghost use Rattle.hoop_records.specs.Rows.{Looking, Looks};
 
-use crate::looks::{Look, Seen, hop, look_from, pass_to, sew, sew_two};
+use crate::looks::{Look, hop, look_from, pass_to, sew, sew_two};
 use crate::rest::fits_rest;
 use read_passes::last_turn;
 use read_records::Row;
@@ -19,7 +19,7 @@ use read_records::words::{
 use rules::Hoop;
 
 // Two stitches whose steps have one byte each.
-fn look_short(steps: &[i32], h: Hoop, w: Look, bytes: &[u8]) -> Seen
+fn look_short(steps: &[i32], h: Hoop, w: Look, bytes: &[u8]) -> Option<Look>
     requires pec_steps { PecSteps steps.now }
     requires at_in_bounds { w.at + 8 ≤ length bytes.now }
     requires at_value { masked 0x80808080 0 (eight_at bytes.now w.at) ≡ true }
@@ -35,7 +35,7 @@ fn look_short(steps: &[i32], h: Hoop, w: Look, bytes: &[u8]) -> Seen
 }
 
 // Two stitches whose steps have two bytes each.
-fn look_long(steps: &[i32], h: Hoop, w: Look, bytes: &[u8]) -> Seen
+fn look_long(steps: &[i32], h: Hoop, w: Look, bytes: &[u8]) -> Option<Look>
     requires pec_steps { PecSteps steps.now }
     requires at_in_bounds { w.at + 8 ≤ length bytes.now }
     requires at_value { masked 0x00B000B000B000B0 0x0080008000800080 (eight_at bytes.now w.at) ≡ true }
@@ -51,7 +51,7 @@ fn look_long(steps: &[i32], h: Hoop, w: Look, bytes: &[u8]) -> Seen
 }
 
 // Two stitches whose steps have one byte and two by turns.
-fn look_short_long(steps: &[i32], h: Hoop, w: Look, bytes: &[u8]) -> Seen
+fn look_short_long(steps: &[i32], h: Hoop, w: Look, bytes: &[u8]) -> Option<Look>
     requires pec_steps { PecSteps steps.now }
     requires at_in_bounds { w.at + 8 ≤ length bytes.now }
     requires at_value { masked 0x000000B08000B080 0x0000008000008000 (eight_at bytes.now w.at) ≡ true }
@@ -67,7 +67,7 @@ fn look_short_long(steps: &[i32], h: Hoop, w: Look, bytes: &[u8]) -> Seen
 }
 
 // One record; v are its first four bytes.
-fn look_word(steps: &[i32], h: Hoop, w: Look, bytes: &[u8], v: u32) -> Seen
+fn look_word(steps: &[i32], h: Hoop, w: Look, bytes: &[u8], v: u32) -> Option<Look>
     requires pec_steps { PecSteps steps.now }
     requires at_in_bounds { w.at + 8 ≤ length bytes.now }
     requires v_value { v ≡ four_at bytes.now w.at }
@@ -75,10 +75,10 @@ fn look_word(steps: &[i32], h: Hoop, w: Look, bytes: &[u8], v: u32) -> Seen
     ensures { Looks Pec h bytes.now w result }
 {
     if v % 65536 == 0x00FF {
-        return Seen::On(pass_to(w, bytes.len()));
+        return Some(pass_to(w, bytes.len()));
     }
     if v % 65536 == 0xB0FE {
-        return Seen::On(hop(w, 0, 0, 3));
+        return Some(hop(w, 0, 0, 3));
     }
     let y = past(v);
     let len = 2 + top(v) + top(y);
@@ -87,10 +87,10 @@ fn look_word(steps: &[i32], h: Hoop, w: Look, bytes: &[u8], v: u32) -> Seen
     if sews_by(steps, v, y) {
         return sew(h, w, dx, dy, len);
     }
-    Seen::On(hop(w, dx, dy, len))
+    Some(hop(w, dx, dy, len))
 }
 
-fn look_steps(steps: &[i32], h: Hoop, w: Look, bytes: &[u8]) -> Seen
+fn look_steps(steps: &[i32], h: Hoop, w: Look, bytes: &[u8]) -> Option<Look>
     requires pec_steps { PecSteps steps.now }
     requires at_in_bounds { w.at + 8 ≤ length bytes.now }
     requires looking { Looking bytes.now w }
@@ -116,8 +116,9 @@ pub fn fits_steps(h: Hoop, bytes: &[u8]) -> bool
     let steps = pec_steps();
     let mut w = look_from(0, 0);
     let end = last_turn(bytes.len(), 8);
+    // Kept as while: each turn goes on by its record's own length.
     while w.at < end {
-        let Seen::On(next) = look_steps(&steps, h, w, bytes) else {
+        let Some(next) = look_steps(&steps, h, w, bytes) else {
             return false;
         };
         w = next;

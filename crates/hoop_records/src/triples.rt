@@ -7,14 +7,14 @@ ghost use Rattle.read_records.specs.declared.Row.TheVariants.{Dst};
 ghost use Rattle.read_passes.specs.Told.{places_in};
 ghost use Rattle.hoop_records.specs.Rows.{Looking, Looks};
 
-use crate::looks::{Look, Seen, hop, look_from, pass_to, sew};
+use crate::looks::{Look, hop, look_from, pass_to, sew};
 use crate::rest::fits_rest;
 use read_passes::last_turn;
 use read_records::Row;
 use read_records::triples::{dst_dx, dst_dy, dst_steps};
 use rules::Hoop;
 
-fn look_triple(h: Hoop, w: Look, xs: &[i32], ys: &[i32], bytes: &[u8]) -> Seen
+fn look_triple(h: Hoop, w: Look, xs: &[i32], ys: &[i32], bytes: &[u8]) -> Option<Look>
     requires dst_steps { DstSteps false xs.now × DstSteps true ys.now }
     requires at_in_bounds { w.at + 3 ≤ length bytes.now }
     requires looking { Looking bytes.now w }
@@ -28,9 +28,9 @@ fn look_triple(h: Hoop, w: Look, xs: &[i32], ys: &[i32], bytes: &[u8]) -> Seen
         return sew(h, w, dx, dy, 3);
     }
     if c & 0xF3 == 0xF3 {
-        return Seen::On(pass_to(w, bytes.len()));
+        return Some(pass_to(w, bytes.len()));
     }
-    Seen::On(hop(w, dx, dy, 3))
+    Some(hop(w, dx, dy, 3))
 }
 
 pub fn fits_triples(h: Hoop, bytes: &[u8]) -> bool
@@ -41,8 +41,9 @@ pub fn fits_triples(h: Hoop, bytes: &[u8]) -> bool
     let ys = dst_steps(true);
     let mut w = look_from(0, 0);
     let end = last_turn(bytes.len(), 3);
+    // Kept as while: each turn goes on by its record's own length.
     while w.at < end {
-        let Seen::On(next) = look_triple(h, w, &xs, &ys, bytes) else {
+        let Some(next) = look_triple(h, w, &xs, &ys, bytes) else {
             return false;
         };
         w = next;

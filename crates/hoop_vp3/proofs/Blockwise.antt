@@ -1,11 +1,12 @@
 -- One block looked at, and one block after the other. Assumes nothing.
-use Prim.Native.Nat.{ℕ, zero, suc, ◌-◌, ◌≤◌, ◌<◌}
+use Rattle.std.specs.Prelude.{Some, None, Ok, Err, Result, IsOk}
+use Prim.Native.Nat.{ℕ, zero, suc, ◌≤◌}
 use mathlib.Core.Path.{◌≡◌, refl, sym, ap, ◌∙◌}
 use mathlib.Core.Bool.{Bool, true, false, ◌&&◌, and_assoc}
 use mathlib.Core.List.{List, [], ◌∷◌, ◌++◌}
 use native.Mathlib.Omega.{arith}
 use lib.Dec.{ltb}
-use lib.IntN.{ℤ, pos, ◌+ℤ◌}
+use lib.IntN.{ℤ, ◌+ℤ◌}
 use lib.ListN.{length, length-take, length-drop}
 use Rattle.rules.specs.Answers.{places, start_of, points_after}
 use Rattle.rules.specs.Hoop.{in_hoop, all_in_hoop}
@@ -14,17 +15,14 @@ use Rattle.rules.specs.Vp3.{Blocks, block, cut, passed, blocks_from, stitch_even
 use Rattle.rules.specs.declared.Color.{Color}
 use Rattle.rules.specs.declared.Hoop.{Hoop}
 use Rattle.rules.specs.declared.Refusal.{Refusal}
-use Rattle.rules.specs.declared.Verdict.TheVariants.{Accepted}
 use Rattle.laws.specs.Verdicts.{first-false}
 use Rattle.laws.specs.Vp3Fields.{block-all}
 use Rattle.read_vp3_fields.specs.Fields.{within, BlockRead}
 use Rattle.read_vp3_fields.specs.declared.Block.{Block}
-use Rattle.read_vp3_fields.specs.declared.Colored.TheVariants as colored
 use Rattle.read_vp3.proofs.Blockwise.{not-refused}
 use Rattle.read_vp3.proofs.Filled.{StartAt, places-all}
 use Rattle.hoop_vp3.specs.Blocks.{blocks_at, fits_at, Ready, Passes}
 use Rattle.hoop_vp3.specs.declared.Start.{Start}
-use Rattle.hoop_vp3.specs.declared.Passed.TheVariants.{On, Outside}
 
 -- ---- places, and then others: they are in the hoop where both are
 
@@ -66,10 +64,11 @@ start-at (suc n) x y s = block-all (StartAt x y) tt tt n x y s (λ x' y' rest c 
 
 module _ {s : List ℕ} {end n : ℕ} {a : Start} (g : Ready s end (suc n) a) where
   -- its fields are without fault too
-  pub no-fault : {r : Refusal} → BlockRead s a.at end a.x a.y (ltb 0 n) (colored.Not r) → ⊥
-  no-fault d = not-refused (d.tells n refl) g.sound
+  pub no-fault : (r : Result Block Refusal) → BlockRead s a.at end a.x a.y (ltb 0 n) r → IsOk r
+  no-fault (Ok k) d = refl
+  no-fault (Err why) d = absurd (not-refused (d.tells n refl) g.sound)
 
-  module _ {k : Block} (d : BlockRead s a.at end a.x a.y (ltb 0 n) (colored.Of k)) where
+  module _ {k : Block} (d : BlockRead s a.at end a.x a.y (ltb 0 n) (Ok k)) where
     abbrev bytes : List ℕ
     bytes = within s k.at k.end
 
@@ -79,7 +78,7 @@ module _ {s : List ℕ} {end n : ℕ} {a : Start} (g : Ready s end (suc n) a) wh
     abbrev rest : Blocks
     rest = blocks_at s end n next
 
-    sounds : (strays a.x a.y (stitch_events bytes) ≡ false) × (fault_in rest ≡ Accepted)
+    sounds : (strays a.x a.y (stitch_events bytes) ≡ false) × (fault_in rest ≡ Ok tt)
     unfolding fault_in
     sounds = first-false _ _ _ (sym (ap fault_in (d.tells n refl)) ∙ g.sound)
 
@@ -97,13 +96,13 @@ module _ {s : List ℕ} {end n : ℕ} {a : Start} (g : Ready s end (suc n) a) wh
         ∙ fits-block h a.x a.y k.x k.y k.color bytes rest (start-at n k.x k.y (within s k.next end))
 
     module _ (h : Hoop) {b : Bool} (e : b ≡ all_in_hoop h (places a.x a.y 0 (stitch_events bytes))) where
-      pub passes_on : b ≡ true → {x y : ℤ} → x ≡ k.x → y ≡ k.y → Passes h s end n a (On (record { x = x; y = y; at = k.next }))
+      pub passes_on : b ≡ true → {x y : ℤ} → x ≡ k.x → y ≡ k.y → Passes h s end n a (Some (record { x = x; y = y; at = k.next }))
       passes_on t ex ey = rw (ex, ey) (
         both h ∙ ap (λ q. q && fits_at s end h n next) (sym e ∙ t),
         record { sound = sounds.1; inside = d.lies.1.1.1; within = g.within; short = g.short },
       )
 
-      pub passes-out : b ≡ false → Passes h s end n a Outside
+      pub passes-out : b ≡ false → Passes h s end n a None
       passes-out f = both h ∙ ap (λ q. q && fits_at s end h n next) (sym e ∙ f)
 
 -- ---- one after the other: n are to come
@@ -113,22 +112,7 @@ module _ (h : Hoop) (s : List ℕ) (end : ℕ) where
     pub ready : Ready s end n a
     pub same : whole ≡ fits_at s end h n a
 
-  pub going_start : {from n : ℕ} → (from ≤ end) × ((end ≤ length s) × (length s ≤ 2097152))
-      → (let bs = blocks_from n (pos 0) (pos 0) (within s from end) in
-      fault_in bs ≡ Accepted → Going (all_in_hoop h (places (pos 0) (pos 0) 0 (events_in bs))) n (record { x = pos 0; y = pos 0; at = from }))
-  going_start p e = record { ready = record { sound = e; inside = p.0; within = p.1.0; short = p.1.1 }; same = refl }
-
   module _ {whole : Bool} where
-    -- there is one more
-    pub going_more : {n : ℕ} {a : Start} → Going whole n a → 0 < n → Going whole (suc (n - 1)) a
-    going_more {n} w l = let e : suc (n - 1) ≡ n = omega arith in rw e w
-
-    pub going_on : {n : ℕ} {a b : Start} → Going whole (suc n) a → Passes h s end n a (On b) → Going whole n b
-    going_on w p = record { ready = p.1; same = w.same ∙ p.0 }
-
-    pub going-out : {n : ℕ} {a : Start} → Going whole (suc n) a → Passes h s end n a Outside → false ≡ whole
-    going-out w p = sym (w.same ∙ p)
-
     -- there is none
     at-end : {a : Start} → Going whole 0 a → true ≡ whole
     unfolding blocks_from events_in places all_in_hoop

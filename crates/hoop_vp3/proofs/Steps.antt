@@ -1,15 +1,14 @@
 -- The stitches of a block looked at, one step or two stitches at once, and so on to the end. Assumes nothing.
-use Prim.Native.Nat.{ℕ, ◌+◌, ◌^◌, ◌≤◌, ◌<◌}
-use mathlib.Core.Path.{◌≡◌, refl, sym, ap, ◌∙◌}
+use Rattle.std.specs.Prelude.{Some, None, Option}
+use Prim.Native.Nat.{ℕ, ◌+◌, ◌≤◌, ◌<◌}
+use mathlib.Core.Path.{◌≡◌, sym, ap, ◌∙◌}
 use mathlib.Core.Bool.{true, false, ◌&&◌, ◌||◌}
 use mathlib.Core.List.{List}
 use native.Mathlib.Omega.{arith}
-use lib.IntN.{ℤ, pos, ◌+ℤ◌, +ℤ_idr}
+use lib.IntN.{ℤ, pos, ◌+ℤ◌}
 use lib.ListN.{length, get_or, drop}
-use lib.Signed.{mag}
 use Rattle.rules.specs.Vocabulary.{signed}
-use Rattle.rules.specs.Answers.{places}
-use Rattle.rules.specs.Hoop.{in_hoop, all_in_hoop}
+use Rattle.rules.specs.Hoop.{in_hoop}
 use Rattle.rules.specs.Vp3.{beyond, strays, stitch_events}
 use Rattle.rules.specs.declared.Hoop.{Hoop}
 use Rattle.laws.specs.Tests.{pick-both, or-no-left, or-no-right}
@@ -21,8 +20,6 @@ use Rattle.read_vp3_stitches.proofs.Counting.{step-later}
 use Rattle.read_vp3_stitches.proofs.Stepping.{end-at, stitch-at}
 use Rattle.hoop_records.specs.Looks.{starts_in, stepped, placed_at, sewn, sewn_two, Leads, LeadsTwo, fits_from, fits_on}
 use Rattle.hoop_records.specs.declared.looks.Look.{Look}
-use Rattle.hoop_records.specs.declared.looks.Seen.{Seen}
-use Rattle.hoop_records.specs.declared.looks.Seen.TheVariants.{On, Outside}
 use Rattle.hoop_records.proofs.Events.{fits-stitch, fits-jump, looks-more, Going, going_done}
 use Rattle.hoop_vp3.specs.Stitches.{Looking, Onward, Looks}
 
@@ -53,16 +50,13 @@ module _ {s : List ℕ} {w : Look} (g : Looking s w) where
     looking-sewn = record { stays = or-no-right (beyond (w.x +ℤ dx) || beyond (w.y +ℤ dy)) _ stays-both; within = e.inside; short = g.short }
 
   -- the place itself is one
-  pub can-stay : mag w.x < 2 ^ 31 → mag w.y < 2 ^ 31 → Leads w (pos 0) (pos 0) 2
-  can-stay hx hy = record { x = rw (+ℤ_idr w.x) hx; y = rw (+ℤ_idr w.y) hy; at = omega (arith, g.within, g.short) }
-
   -- ---- what is seen of it
 
-  abbrev seen_by : Hoop → Step → Seen
+  abbrev seen_by : Hoop → Step → Option Look
   seen_by h (Stitch dx dy n) = sewn h w dx dy n
-  seen_by h EndRun = On (stepped false w (pos 0) (pos 0) 2)
-  seen_by h Nothing = On (placed_at w (w.at + 2))
-  seen_by h Finish = On (placed_at w (length s))
+  seen_by h EndRun = Some (stepped false w (pos 0) (pos 0) 2)
+  seen_by h Nothing = Some (placed_at w (w.at + 2))
+  seen_by h Finish = Some (placed_at w (length s))
 
   same_by : (h : Hoop) (r : Step) → StepAt s w.at r
       → fits_from h w (stitch_events (drop w.at s)) ≡ fits_on h (seen_by h r) (λ i. stitch_events (drop i s))
@@ -74,7 +68,7 @@ module _ {s : List ℕ} {w : Look} (g : Looking s w) where
   onward-by : (h : Hoop) (r : Step) → StepAt s w.at r → Onward s w (seen_by h r)
   unfolding strays
   onward-by h (Stitch dx dy n) e =
-      pick-both (Onward s w) (starts_in h w && in_hoop h (w.x +ℤ dx) (w.y +ℤ dy)) {x = On (stepped true w dx dy n)} {y = Outside}
+      pick-both (Onward s w) (starts_in h w && in_hoop h (w.x +ℤ dx) (w.y +ℤ dy)) {x = Some (stepped true w dx dy n)} {y = None}
       (looking-sewn e, step-later (Stitch dx dy n) e) tt
   onward-by h EndRun e =
       (record { stays = sym (ap (strays w.x w.y) e.tells) ∙ g.stays; within = e.inside; short = g.short }, step-later EndRun e)
@@ -88,9 +82,9 @@ module _ {s : List ℕ} {w : Look} (g : Looking s w) where
 
 -- ---- two stitches in a row
 
-onward_then : (s : List ℕ) (w v : Look) → v.at < length s → Onward s w (On v) → (r : Seen) → Onward s v r → Onward s w r
-onward_then s w v l o (On u) p = (p.0, λ k. omega (arith, o.1 k, p.1 l))
-onward_then s w v l o Outside p = tt
+onward_then : (s : List ℕ) (w v : Look) → v.at < length s → Onward s w (Some v) → (r : Option Look) → Onward s v r → Onward s w r
+onward_then s w v l o (Some u) p = (p.0, λ k. omega (arith, o.1 k, p.1 l))
+onward_then s w v l o None p = tt
 
 module _ {s : List ℕ} {w : Look} (g : Looking s w) {dx dy ex ey : ℤ} {n : ℕ} (e : StepAt s w.at (Stitch dx dy n))
     (f : StepAt s (w.at + n) (Stitch ex ey n)) where
@@ -112,10 +106,3 @@ module _ (h : Hoop) (s : List ℕ) where
 
   pub at-end : {first w : Look} → Stitches first w → length s ≤ w.at → true ≡ fits_from h first (stitch_events (drop first.at s))
   at-end {w = w} g l = going_done g (end-at s w.at (omega arith))
-
-module _ (s : List ℕ) {x y : ℤ} {w : Look} (e : w ≡ record { x = x; y = y; running = false; at = 0 }) where
-  pub front-looking : length s ≤ 2097152 → strays x y (stitch_events s) ≡ false → Looking s w
-  front-looking l k = rw e (record { stays = k; within = omega arith; short = l })
-
-  pub front-all : (h : Hoop) → fits_from h w (stitch_events (drop w.at s)) ≡ all_in_hoop h (places x y 0 (stitch_events s))
-  front-all h = rw e refl

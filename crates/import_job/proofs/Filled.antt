@@ -1,4 +1,5 @@
 -- The second pass over a job without fault: one field, from field to field, and the end. Assumes nothing.
+use Rattle.std.specs.Prelude.{Ok, Err, Result, IsOk}
 use Prim.Native.Nat.{ℕ, ◌+◌, ◌≤◌, ◌<◌}
 use mathlib.Core.Path.{◌≡◌, refl, sym, ap, ◌∙◌}
 use mathlib.Core.Bool.{false}
@@ -15,22 +16,26 @@ use Rattle.rules.specs.Promises.{xs_of, ys_of, kinds_of}
 use Rattle.rules.specs.declared.Cmd.{Cmd}
 use Rattle.rules.specs.declared.Refusal.{Refusal}
 use Rattle.rules.specs.declared.Refusal.TheVariants.{BadTag}
-use Rattle.rules.specs.declared.Verdict.TheVariants.{Accepted, Refused}
 use Rattle.laws.specs.Buffers.{Put, put-nothing, put_front, Writing, writing_start, writing_more, writing-done}
 use Rattle.laws.specs.Jobs.{fields-step}
 use Rattle.laws.specs.Listing.{list-end}
 use Rattle.laws.specs.Tests.{by-test, pick-both}
 use Rattle.laws.specs.Verdicts.{never_both}
-use Rattle.read_job_fields.specs.Fields.{content_of, Lies}
+use Rattle.read_job_fields.specs.Fields.{content_of, Lies, FieldRead}
+use Rattle.read_job_fields.specs.declared.Field.{Field}
 use Rattle.import_job.specs.Fills.{RowRoom, RowsPut, fields_at, Ready, Fills, Fits, Filled}
 use Rattle.import_job.specs.declared.fill.Filler.{Filler}
 
 -- ---- one field
 
 module _ {s : List ℕ} {f : Filler} {nx ny nk nt : ℕ} (r : Ready s f nx ny nk nt) where
-  pub not-refused : {X : Type 0} {why : Refusal} → fields_at s f ≡ ended (Refused why) → X
+  not-refused : {X : Type 0} {why : Refusal} → fields_at s f ≡ ended (Err why) → X
   unfolding fault_of
   not-refused e = absurd (never_both (sym (ap fault_of e) ∙ r.sound))
+
+  pub found : (a : Result Field Refusal) → FieldRead s f.before f.at a → IsOk a
+  found (Ok t) l = refl
+  found (Err why) e = not-refused e
 
   module _ {tag start end : ℕ} (l : Lies s f.before f.at tag start end) where
     abbrev content : List ℕ
@@ -110,13 +115,13 @@ module _ (s : List ℕ) (X₀ Y₀ : List ℤ) (K₀ T₀ : List ℕ) where
     pub ys : Writing Y₀ 0 (job_ys s) Y f.commands (ys_of (commands_in (fields_at s f)))
     pub kinds : Writing K₀ 0 (job_kinds s) K f.commands (kinds_of (commands_in (fields_at s f)))
     pub threads : Writing T₀ 0 (job_threads s) T f.thread_bytes (threads_in (fields_at s f))
-    pub sound : fault_of (fields_at s f) ≡ Accepted
+    pub sound : fault_of (fields_at s f) ≡ Ok tt
     pub inside : f.at ≤ length s
 
   abbrev first : Filler
   first = record { before = 0; at = 0; commands = 0; thread_bytes = 0 }
 
-  pub filling-start : fault_of (job_fields s) ≡ Accepted → Fits s (length X₀) (length Y₀) (length K₀) (length T₀) → Filling X₀ Y₀ K₀ T₀ first
+  pub filling-start : fault_of (job_fields s) ≡ Ok tt → Fits s (length X₀) (length Y₀) (length K₀) (length T₀) → Filling X₀ Y₀ K₀ T₀ first
   unfolding job_fields job_xs job_ys job_kinds job_threads job_commands
   filling-start e h = record {
     xs = writing_start X₀ 0 _ (omega (arith, h.in_xs));
@@ -157,7 +162,7 @@ module _ {s : List ℕ} {X₀ X Y₀ Y : List ℤ} {K₀ K T₀ T : List ℕ} {f
 
   -- nothing is left
   module _ (end : length s ≤ f.at) where
-    last : fields_at s f ≡ pick (eqb f.before 0) bad_tag (ended Accepted)
+    last : fields_at s f ≡ pick (eqb f.before 0) bad_tag (ended (Ok tt))
     unfolding field_then
     last = rw (list-end s f.at end) (fields-step f.before [])
 

@@ -1,4 +1,5 @@
 -- What the import of a job and the call for its name answer, by the first pass. Assumes nothing.
+use Rattle.std.specs.Prelude.{Ok, Err, Result, IsOk, ⊤}
 use Prim.Native.Nat.{ℕ, ◌-◌, ◌≤◌, ◌<◌}
 use mathlib.Core.Path.{◌≡◌, refl, sym, ap, ◌∙◌}
 use mathlib.Core.Bool.{Bool, true, false, not}
@@ -17,46 +18,38 @@ use Rattle.rules.specs.Jobs.{job_name, job_threads, job_commands, job_xs, job_ys
 use Rattle.rules.specs.Jobs.{job_counts, import_answer, job_name_told}
 use Rattle.rules.specs.Promises.{ImportedOf, imports}
 use Rattle.rules.specs.declared.Cmd.{Cmd}
-use Rattle.rules.specs.declared.ImportAnswer.TheVariants.{Imported, NotImported}
 use Rattle.rules.specs.declared.JobCounts.{JobCounts}
 use Rattle.rules.specs.declared.Refusal.{Refusal}
 use Rattle.rules.specs.declared.Refusal.TheVariants.{BufferTooShort, BadTag}
-use Rattle.rules.specs.declared.Verdict.{Verdict}
-use Rattle.rules.specs.declared.Verdict.TheVariants.{Accepted, Refused}
 use Rattle.laws.specs.Jobs.{fields-step}
 use Rattle.laws.specs.Tests.{by-test, or-no-left, or-no-right}
 use Rattle.laws.specs.Verdicts.{never_both, first-false, verdict-on, verdict-stop}
 use Rattle.read_header.specs.declared.Span.{Span}
-use Rattle.read_job_fields.specs.Fields.{content_of, Lies}
-use Rattle.read_refusals.specs.declared.LabelAnswer.{LabelAnswer}
-use Rattle.read_refusals.specs.declared.LabelAnswer.TheVariants as named
+use Rattle.read_job_fields.specs.Fields.{content_of, Lies, FieldRead}
+use Rattle.read_job_fields.specs.declared.Field.{Field}
 use Rattle.import_job.specs.Fills.{Fits, Filled}
 use Rattle.import_job.specs.Walks.{checked_by, room_for, NameAt, NameRead}
-use Rattle.import_job.specs.declared.Checked.TheVariants as checked
 
 -- ---- what the first pass tells
 
-sound-by : (v : Verdict) (c : JobCounts) {n : JobCounts} → checked.Sound n ≡ checked_by v c → (v ≡ Accepted) × (n ≡ c)
-sound-by Accepted c e = (refl, cc)
-sound-by (Refused r) c e = let z : ◌≡◌ {A = ℕ} 0 1 = cc in absurd (omega arith)
+sound-by : (v : Result ⊤ Refusal) (c : JobCounts) {n : JobCounts} → Ok n ≡ checked_by v c → (v ≡ Ok tt) × (n ≡ c)
+sound-by (Ok u) c e = (refl, cc)
+sound-by (Err r) c e = cc
 
-not-by : (v : Verdict) (c : JobCounts) {r : Refusal} → checked.Not r ≡ checked_by v c → v ≡ Refused r
-not-by Accepted c e = let z : ◌≡◌ {A = ℕ} 0 1 = cc in absurd (omega arith)
-not-by (Refused q) c e = cc
+not-by : (v : Result ⊤ Refusal) (c : JobCounts) {r : Refusal} → Err r ≡ checked_by v c → v ≡ Err r
+not-by (Ok u) c e = cc
+not-by (Err q) c e = cc
 
-pub sound-is : (s : List ℕ) {n : JobCounts} → checked.Sound n ≡ checked_by (job_verdict s) (job_counts s) → (job_verdict s ≡ Accepted) × (n ≡ job_counts s)
+pub sound-is : (s : List ℕ) {n : JobCounts} → Ok n ≡ checked_by (job_verdict s) (job_counts s) → (job_verdict s ≡ Ok tt) × (n ≡ job_counts s)
 sound-is s e = sound-by (job_verdict s) (job_counts s) e
 
-pub not_is : (s : List ℕ) {r : Refusal} → checked.Not r ≡ checked_by (job_verdict s) (job_counts s) → job_verdict s ≡ Refused r
-not_is s e = not-by (job_verdict s) (job_counts s) e
-
 -- an accepted job has no fault among its fields
-fault-none : (v : Verdict) (rs : List (Refusal × Bool)) → verdict (row_of v ++ rs) ≡ Accepted → v ≡ Accepted
+fault-none : (v : Result ⊤ Refusal) (rs : List (Refusal × Bool)) → verdict (row_of v ++ rs) ≡ Ok tt → v ≡ Ok tt
 unfolding row_of verdict
-fault-none Accepted rs e = refl
-fault-none (Refused r) rs e = e
+fault-none (Ok u) rs e = refl
+fault-none (Err r) rs e = e
 
-pub no-fault : (s : List ℕ) → job_verdict s ≡ Accepted → fault_of (job_fields s) ≡ Accepted
+pub no-fault : (s : List ℕ) → job_verdict s ≡ Ok tt → fault_of (job_fields s) ≡ Ok tt
 unfolding job_verdict job_refusals verdict
 no-fault s e = fault-none (fault_of (job_fields s)) _ (first-false (ltb 2097152 (length s)) _ _ e).1
 
@@ -95,22 +88,22 @@ module _ (s : List ℕ) (X Y : List ℤ) (K T : List ℕ) where
   abbrev roomless : Bool
   roomless = job_no_room s (length X) (length Y) (length K) (length T)
 
-  pub refused : {r : Refusal} → job_verdict s ≡ Refused r → ImportedOf s X Y K T X Y K T (NotImported r)
+  pub refused : {r : Refusal} → Err r ≡ checked_by (job_verdict s) (job_counts s) → ImportedOf s X Y K T X Y K T (Err r)
   unfolding job_verdict import_verdict import_answer filled
   refused {r} e =
-      let v : imports s X Y K T ≡ Refused r = verdict-stop (job_refusals s) _ r e in
+      let v : imports s X Y K T ≡ Err r = verdict-stop (job_refusals s) _ r (not-by (job_verdict s) (job_counts s) e) in
       record { answered = rw v; xs_are = rw v; ys_are = rw v; kinds_are = rw v; threads_are = rw v }
 
-  module _ (e : job_verdict s ≡ Accepted) {n : JobCounts} (c : n ≡ job_counts s) where
+  module _ (e : job_verdict s ≡ Ok tt) {n : JobCounts} (c : n ≡ job_counts s) where
     by-room : imports s X Y K T ≡ verdict ((BufferTooShort, roomless) ∷ [])
     unfolding job_verdict import_verdict
     by-room = verdict-on (job_refusals s) _ e
 
-    pub no_room_lem : false ≡ room_for n (length X) (length Y) (length K) (length T) → ImportedOf s X Y K T X Y K T (NotImported BufferTooShort)
+    pub no_room_lem : false ≡ room_for n (length X) (length Y) (length K) (length T) → ImportedOf s X Y K T X Y K T (Err BufferTooShort)
     unfolding verdict import_answer filled
     no_room_lem h =
         let r : roomless ≡ true = yes-not _ (sym (room-is s c _ _ _ _) ∙ sym h) in
-        let v : imports s X Y K T ≡ Refused BufferTooShort = by-room ∙ rw r in
+        let v : imports s X Y K T ≡ Err BufferTooShort = by-room ∙ rw r in
         record { answered = rw v; xs_are = rw v; ys_are = rw v; kinds_are = rw v; threads_are = rw v }
 
     module _ (h : true ≡ room_for n (length X) (length Y) (length K) (length T)) where
@@ -120,12 +113,12 @@ module _ (s : List ℕ) (X Y : List ℤ) (K T : List ℕ) where
       pub has_room : Fits s (length X) (length Y) (length K) (length T)
       has_room = fits s _ _ _ _ some-room
 
-      pub imported : {X' Y' : List ℤ} {K' T' : List ℕ} → Filled s X X' Y Y' K K' T T' → ImportedOf s X Y K T X' Y' K' T' (Imported n)
+      pub imported : {X' Y' : List ℤ} {K' T' : List ℕ} → Filled s X X' Y Y' K K' T T' → ImportedOf s X Y K T X' Y' K' T' (Ok n)
       unfolding verdict import_answer filled
       imported f =
-          let v : imports s X Y K T ≡ Accepted = by-room ∙ rw some-room in
+          let v : imports s X Y K T ≡ Ok tt = by-room ∙ rw some-room in
           record {
-            answered = rw v (ap Imported c);
+            answered = rw v (ap Ok c);
             xs_are = rw v f.xs;
             ys_are = rw v f.ys;
             kinds_are = rw v f.kinds;
@@ -134,15 +127,19 @@ module _ (s : List ℕ) (X Y : List ℤ) (K T : List ℕ) where
 
 -- ---- the name
 
-empty : (s : List ℕ) → length s ≤ 0 → fields_from 0 s ≡ ended (Refused BadTag)
+empty : (s : List ℕ) → length s ≤ 0 → fields_from 0 s ≡ ended (Err BadTag)
 unfolding field_then bad_tag
 empty [] h = fields-step 0 []
 empty (x ∷ s) h = absurd (omega arith)
 
-module _ (s : List ℕ) (e : fault_of (job_fields s) ≡ Accepted) where
-  pub not-refused : {X : Type 0} {r : Refusal} → fields_from 0 s ≡ ended (Refused r) → X
+module _ (s : List ℕ) (e : fault_of (job_fields s) ≡ Ok tt) where
+  not-refused : {X : Type 0} {r : Refusal} → fields_from 0 s ≡ ended (Err r) → X
   unfolding job_fields fault_of
   not-refused f = absurd (never_both (sym (ap fault_of f) ∙ e))
+
+  pub found : (r : Result Field Refusal) → FieldRead s 0 0 r → IsOk r
+  found (Ok f) l = refl
+  found (Err r) e = not-refused e
 
   pub some-field : 0 < length s
   some-field = by-test (ltb 0 (length s)) (ltb-true 0 (length s)) (λ t. not-refused (empty s (ltb-false 0 (length s) t)))
@@ -160,21 +157,21 @@ module _ (s : List ℕ) (e : fault_of (job_fields s) ≡ Accepted) where
     name-there = (l.begins, record { inside = omega arith; text = name_is })
 
 -- what the call gives back of it, by a verdict
-told-by : (s : List ℕ) (p : Span) (v : Verdict) → NameRead s v (named.Found p) → take p.len (drop p.start s) ≡ label_under v (job_name s)
+told-by : (s : List ℕ) (p : Span) (v : Result ⊤ Refusal) → NameRead s v (Ok p) → take p.len (drop p.start s) ≡ label_under v (job_name s)
 unfolding label_under
-told-by s p Accepted h = h.1.text
-told-by s p (Refused r) h = let z : ◌≡◌ {A = ℕ} 0 1 = cc in absurd (omega arith)
+told-by s p (Ok u) h = h.1.text
+told-by s p (Err r) h = cc
 
-none-by : (s : List ℕ) (r : Refusal) (v : Verdict) → NameRead s v (named.Not r) → [] ≡ label_under v (job_name s)
+none-by : (s : List ℕ) (r : Refusal) (v : Result ⊤ Refusal) → NameRead s v (Err r) → [] ≡ label_under v (job_name s)
 unfolding label_under
-none-by s r Accepted h = absurd h
-none-by s r (Refused q) h = refl
+none-by s r (Ok u) h = absurd h
+none-by s r (Err q) h = refl
 
-module _ (s : List ℕ) {a : LabelAnswer} (h : NameRead s (job_verdict s) a) where
-  pub name-told : {p : Span} → a ≡ named.Found p → take p.len (drop p.start s) ≡ job_name_told s
+module _ (s : List ℕ) where
+  pub name-told : (p : Span) → NameRead s (job_verdict s) (Ok p) → take p.len (drop p.start s) ≡ job_name_told s
   unfolding job_name_told
-  name-told {p} e = told-by s p (job_verdict s) (rw e at h)
+  name-told p h = told-by s p (job_verdict s) h
 
-  pub no-name-told : {r : Refusal} → a ≡ named.Not r → [] ≡ job_name_told s
+  pub no-name-told : (r : Refusal) → NameRead s (job_verdict s) (Err r) → [] ≡ job_name_told s
   unfolding job_name_told
-  no-name-told {r} e = none-by s r (job_verdict s) (rw e at h)
+  no-name-told r h = none-by s r (job_verdict s) h

@@ -1,4 +1,5 @@
 -- The first pass over a job: one field, from field to field, and the end. Assumes nothing.
+use Rattle.std.specs.Prelude.{Ok, Err}
 use Prim.Native.Nat.{ℕ, ◌+◌, ◌-◌, ◌≤◌, ◌<◌}
 use mathlib.Core.Path.{◌≡◌, refl, sym, ap, ◌∙◌}
 use mathlib.Core.Bool.{Bool, true, false}
@@ -15,7 +16,6 @@ use Rattle.rules.specs.Jobs.{Fields, ended, field, bad_tag, unknown_kind, rows_i
 use Rattle.rules.specs.Jobs.{job_xs, job_ys, job_kinds, job_threads, job_commands, job_refusals, job_verdict, job_counts}
 use Rattle.rules.specs.declared.Refusal.{Refusal}
 use Rattle.rules.specs.declared.Refusal.TheVariants.{FileTooLong, BadTag}
-use Rattle.rules.specs.declared.Verdict.TheVariants.{Accepted, Refused}
 use Rattle.laws.specs.Jobs.{fields-step, rows_long}
 use Rattle.laws.specs.Listing.{list-end}
 use Rattle.laws.specs.Tests.{by-test}
@@ -24,8 +24,6 @@ use Rattle.read_job_tally.specs.Tallies.{no_tally, tallied, tally_verdict, Spare
 use Rattle.read_job_tally.specs.Laws.{tallied-append, tallied-commands, tallied-fewer, tallied-unknown, tally-verdict}
 use Rattle.read_job_tally.specs.declared.Tally.{Tally}
 use Rattle.import_job.specs.Walks.{content_walk, fields_at, Stands, Passes, Walks, end_check, Checks}
-use Rattle.import_job.specs.declared.Checked.TheVariants as checked
-use Rattle.import_job.specs.declared.Walk.TheVariants as walk
 use Rattle.import_job.specs.declared.Walker.{Walker}
 
 -- ---- one field
@@ -42,8 +40,8 @@ rows_few tag content = by-test (eqb tag 3) (λ e. rw e (omega (arith, rows_long 
 threads_few : (tag : ℕ) (content : List ℕ) → length (pick (eqb tag 2) content []) ≤ length content
 threads_few tag content = by-test (eqb tag 2) (λ e. rw e (omega arith)) (λ e. rw e (omega arith))
 
-by-kinds : (s : List ℕ) (w : Walker) (b : Bool) (v : Walker) → (b ≡ true → fault_of (fields_at s w) ≡ Refused BadTag)
-    → (b ≡ false → Passes s w v) → Walks s w (pick b (walk.Not BadTag) (walk.On v))
+by-kinds : (s : List ℕ) (w : Walker) (b : Bool) (v : Walker) → (b ≡ true → fault_of (fields_at s w) ≡ Err BadTag)
+    → (b ≡ false → Passes s w v) → Walks s w (pick b (Err BadTag) (Ok v))
 by-kinds s w true v f g = f refl
 by-kinds s w false v f g = g refl
 
@@ -87,7 +85,7 @@ module _ {s : List ℕ} {w : Walker} {tag start end : ℕ} (st : Stands s w) (l 
       };
     }
 
-  unknown-walk : any unknown_kind (rows_in tag content) ≡ true → fault_of (fields_at s w) ≡ Refused BadTag
+  unknown-walk : any unknown_kind (rows_in tag content) ≡ true → fault_of (fields_at s w) ≡ Err BadTag
   unfolding fault_of bad_tag
   unknown-walk u = ap fault_of l.tells ∙ rw u
 
@@ -97,16 +95,16 @@ module _ {s : List ℕ} {w : Walker} {tag start end : ℕ} (st : Stands s w) (l 
 -- ---- the verdict, by the fault among the fields
 
 module _ (s : List ℕ) where
-  pub too_long : 2097152 < length s → job_verdict s ≡ Refused FileTooLong
+  pub too_long : 2097152 < length s → job_verdict s ≡ Err FileTooLong
   unfolding job_verdict job_refusals verdict
   too_long h = rw (lt-ltb 2097152 (length s) h)
 
   module _ (h : length s ≤ 2097152) where
-    fault-verdict : {r : Refusal} → fault_of (job_fields s) ≡ Refused r → job_verdict s ≡ Refused r
+    fault-verdict : {r : Refusal} → fault_of (job_fields s) ≡ Err r → job_verdict s ≡ Err r
     unfolding job_verdict job_refusals verdict row_of
     fault-verdict e = rw (le-ltb 2097152 (length s) h, e)
 
-    sound-verdict : fault_of (job_fields s) ≡ Accepted → job_verdict s ≡ command_verdict (job_xs s) (job_ys s) (job_kinds s) (job_threads s)
+    sound-verdict : fault_of (job_fields s) ≡ Ok tt → job_verdict s ≡ command_verdict (job_xs s) (job_ys s) (job_kinds s) (job_threads s)
     unfolding job_verdict job_refusals command_verdict verdict row_of
     sound-verdict e = rw (le-ltb 2097152 (length s) h, e)
 
@@ -136,20 +134,20 @@ module _ {s : List ℕ} {w : Walker} (g : Going s w) where
     stands = p.stands;
   }
 
-  pub going-not : {r : Refusal} → fault_of (fields_at s w) ≡ Refused r → Checks s (checked.Not r)
+  pub going-not : {r : Refusal} → fault_of (fields_at s w) ≡ Err r → Checks s (Err r)
   going-not {r} e = rw (fault-verdict s g.stands.short (sym g.fault ∙ e))
 
   module _ (end : length s ≤ w.at) where
-    last : fields_at s w ≡ pick (eqb w.before 0) bad_tag (ended Accepted)
+    last : fields_at s w ≡ pick (eqb w.before 0) bad_tag (ended (Ok tt))
     unfolding field_then
     last = rw (list-end s w.at end) (fields-step w.before [])
 
-    no_name : eqb w.before 0 ≡ true → Checks s (checked.Not BadTag)
+    no_name : eqb w.before 0 ≡ true → Checks s (Err BadTag)
     unfolding fault_of bad_tag
     no_name e = let f : fields_at s w ≡ bad_tag = last ∙ rw e in going-not (ap fault_of f)
 
     module _ (e : eqb w.before 0 ≡ false) where
-      none_left : fields_at s w ≡ ended Accepted
+      none_left : fields_at s w ≡ ended (Ok tt)
       none_left = last ∙ rw e
 
       tally-is : w.t ≡ tallied no_tally (job_commands s)

@@ -1,9 +1,8 @@
 -- The second pass over the fields of a job: what is written and what is to come are the same from field to field.
-use Rattle.std.specs.Prelude.{ℕ, ◌+◌, ◌≤◌, ◌<◌, ◌≡◌, List, ◌++◌, ℤ, length, drop}
+use Rattle.std.specs.Prelude.{ℕ, ◌+◌, ◌≤◌, ◌<◌, ◌≡◌, List, ◌++◌, ℤ, length, drop, Ok}
 use Rattle.rules.specs.Jobs.{Fields, rows_of, fields_from, fault_of, threads_in, commands_in, job_xs, job_ys, job_kinds, job_threads}
 use Rattle.rules.specs.Promises.{xs_of, ys_of, kinds_of}
 use Rattle.rules.specs.declared.Cmd.{Cmd}
-use Rattle.rules.specs.declared.Verdict.TheVariants.{Accepted}
 use Rattle.laws.specs.Buffers.{Put}
 use Rattle.import_job.specs.declared.fill.Filler.{Filler}
 
@@ -31,7 +30,7 @@ module _ (s : List ℕ) where
   -- they are without fault, there is one, and their answers have room
   pub record Ready (f : Filler) (nx ny nk nt : ℕ) : Type 0 where
     pub inside : f.at < length s
-    pub sound : fault_of (fields_at f) ≡ Accepted
+    pub sound : fault_of (fields_at f) ≡ Ok tt
     pub rows : Room (length (commands_in (fields_at f))) f.commands nx ny nk
     pub threads : f.thread_bytes + length (threads_in (fields_at f)) ≤ nt
 
@@ -43,7 +42,7 @@ module _ (s : List ℕ) where
     pub threads_are : threads_in (fields_at f) ≡ bytes ++ threads_in (fields_at g)
     pub rows : RowsPut cs f.commands g.commands X X' Y Y' K K'
     pub threads : Put T T' f.thread_bytes g.thread_bytes bytes
-    pub sound : fault_of (fields_at g) ≡ Accepted
+    pub sound : fault_of (fields_at g) ≡ Ok tt
     pub later : f.at < g.at
     pub inside : g.at ≤ length s
 

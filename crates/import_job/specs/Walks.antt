@@ -1,28 +1,20 @@
 -- The first pass over the fields of a job: what is to come of the fault and of the tally is the same from field to field.
-use Rattle.std.specs.Prelude.{ℕ, ◌+◌, ◌≤◌, ◌<◌, ◌≡◌, Bool, false, ◌||◌, not, List, [], ltb, eqb, length, drop}
+use Rattle.std.specs.Prelude.{ℕ, ◌+◌, ◌≤◌, ◌<◌, ◌≡◌, Bool, false, ◌||◌, not, List, [], ltb, eqb, length, drop, Ok, Err, Result, ⊤}
 use Rattle.rules.specs.Vocabulary.{pick}
 use Rattle.rules.specs.Jobs.{Fields, rows_in, fields_from, fault_of, threads_in, commands_in, job_verdict, job_counts, job_name}
 use Rattle.rules.specs.declared.JobCounts.{JobCounts}
 use Rattle.rules.specs.declared.Refusal.{Refusal}
 use Rattle.rules.specs.declared.Refusal.TheVariants.{BadTag}
-use Rattle.rules.specs.declared.Verdict.{Verdict}
-use Rattle.rules.specs.declared.Verdict.TheVariants.{Accepted, Refused}
 use Rattle.read_header.specs.Spans.{Holds}
 use Rattle.read_header.specs.declared.Span.{Span}
-use Rattle.read_refusals.specs.declared.LabelAnswer.{LabelAnswer}
-use Rattle.read_refusals.specs.declared.LabelAnswer.TheVariants as named
 use Rattle.read_job_tally.specs.Tallies.{tallied, tally_verdict}
-use Rattle.import_job.specs.declared.Checked.{Checked}
-use Rattle.import_job.specs.declared.Checked.TheVariants as checked
-use Rattle.import_job.specs.declared.Walk.{Walk}
-use Rattle.import_job.specs.declared.Walk.TheVariants as walk
 use Rattle.import_job.specs.declared.Walker.{Walker}
 
 -- the walker behind a content that ends at `end`, if its kinds are known
-abbrev pub content_walk : Walker → ℕ → List ℕ → ℕ → Walk
+abbrev pub content_walk : Walker → ℕ → List ℕ → ℕ → Result Walker Refusal
 content_walk w tag content end =
-    pick (tallied w.t (rows_in tag content)).unknown (walk.Not BadTag)
-    (walk.On (record {
+    pick (tallied w.t (rows_in tag content)).unknown (Err BadTag)
+    (Ok (record {
       before = tag;
       at = end;
       t = tallied w.t (rows_in tag content);
@@ -50,27 +42,23 @@ module _ (s : List ℕ) where
     pub later : w.at < v.at
     pub stands : Stands v
 
-  abbrev pub Walks : Walker → Walk → Type 0
-  Walks w (walk.On v) = Passes w v
-  Walks w (walk.Not r) = fault_of (fields_at w) ≡ Refused r
-
-abbrev pub refused_by : Walk → Refusal
-refused_by (walk.On w) = BadTag
-refused_by (walk.Not r) = r
+  abbrev pub Walks : Walker → Result Walker Refusal → Type 0
+  Walks w (Ok v) = Passes w v
+  Walks w (Err r) = fault_of (fields_at w) ≡ Err r
 
 -- by a verdict
-abbrev pub checked_by : Verdict → JobCounts → Checked
-checked_by Accepted c = checked.Sound c
-checked_by (Refused r) c = checked.Not r
+abbrev pub checked_by : Result ⊤ Refusal → JobCounts → Result JobCounts Refusal
+checked_by (Ok u) c = Ok c
+checked_by (Err r) c = Err r
 
 -- a job that ends at a walker
-abbrev pub end_check : Walker → Checked
+abbrev pub end_check : Walker → Result JobCounts Refusal
 end_check w =
-    pick (eqb w.before 0) (checked.Not BadTag)
+    pick (eqb w.before 0) (Err BadTag)
     (checked_by (tally_verdict w.t w.thread_bytes) (record { commands = w.t.commands; thread_bytes = w.thread_bytes }))
 
 -- the verdict on a job, and what it holds if it is accepted
-abbrev pub Checks : List ℕ → Checked → Type 0
+abbrev pub Checks : List ℕ → Result JobCounts Refusal → Type 0
 Checks s r = r ≡ checked_by (job_verdict s) (job_counts s)
 
 -- so many commands and bytes of threads fit four buffers
@@ -83,7 +71,7 @@ abbrev pub NameAt : List ℕ → Span → Type 0
 NameAt s p = (p.start ≡ 3) × Holds p s (job_name s)
 
 -- that, or why the job is refused
-abbrev pub NameRead : List ℕ → Verdict → LabelAnswer → Type 0
-NameRead s Accepted (named.Found p) = NameAt s p
-NameRead s Accepted (named.Not r) = ⊥
-NameRead s (Refused r) answer = answer ≡ named.Not r
+abbrev pub NameRead : List ℕ → Result ⊤ Refusal → Result Span Refusal → Type 0
+NameRead s (Ok u) (Ok p) = NameAt s p
+NameRead s (Ok u) (Err r) = ⊥
+NameRead s (Err r) answer = answer ≡ Err r

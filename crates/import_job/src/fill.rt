@@ -1,11 +1,10 @@
 // The second pass over the fields of a job: commands and threads go into the buffers.
-ghost use Rattle.std.specs.Prelude.{◌≡◌, ◌+◌, ◌≤◌, ◌<◌, length};
+ghost use Rattle.std.specs.Prelude.{◌≡◌, ◌+◌, ◌≤◌, ◌<◌, length, Ok};
 ghost use Rattle.rules.specs.Jobs.{rows_of, job_fields, fault_of};
-ghost use Rattle.rules.specs.declared.Verdict.TheVariants.{Accepted};
 ghost use Rattle.import_job.specs.Fills.{RowRoom, RowsPut, Ready, Fills, Fits, Filled};
 
 use emit::put_text;
-use read_job_fields::{Field, field_at, i16le};
+use read_job_fields::{field_at, i16le};
 
 // The tag of the field before, 0 at the front, where the next field begins, and how much stands in the buffers.
 #[derive(Clone, Copy)]
@@ -21,18 +20,16 @@ fn fill_rows(bytes: &[u8], xs: &mut [i32], ys: &mut [i32], kinds: &mut [u8], fro
     requires { RowRoom bytes.now from (length xs.old) (length ys.old) (length kinds.old) }
     ensures { RowsPut (rows_of bytes.now) from result xs.old xs.new ys.old ys.new kinds.old kinds.new }
 {
-    let mut i = from;
-    let mut at = 0;
-    while 5 <= bytes.len() - at {
+    let n = bytes.len() / 5;
+    for i in 0..n {
+        let at = 5 * i;
         let x = i16le(bytes, at + 1);
         let y = i16le(bytes, at + 3);
-        kinds[i] = bytes[at];
-        xs[i] = x;
-        ys[i] = y;
-        i += 1;
-        at += 5;
+        kinds[from + i] = bytes[at];
+        xs[from + i] = x;
+        ys[from + i] = y;
     }
-    i
+    from + n
 }
 
 // The field at a filler's place.
@@ -47,41 +44,29 @@ fn fill_field(
     requires { Ready job.now f (length xs.old) (length ys.old) (length kinds.old) (length threads.old) }
     ensures { Fills job.now f xs.old xs.new ys.old ys.new kinds.old kinds.new threads.old threads.new result }
 {
-    let Field::At { tag, start, end } = field_at(job, f.at, f.before) else {
-        return f;
+    let field = field_at(job, f.at, f.before).unwrap();
+    let content = &job[field.start..field.end];
+    let f = Filler {
+        before: field.tag,
+        at: field.end,
+        ..f
     };
-    let content = &job[start..end];
-    let i = f.commands;
-    let t = f.thread_bytes;
-    if tag == 3 {
-        let n = fill_rows(content, xs, ys, kinds, i);
-        return Filler {
-            before: tag,
-            at: end,
-            commands: n,
-            thread_bytes: t,
-        };
-    }
-    if tag == 2 {
-        let n = put_text(threads, t, content);
-        return Filler {
-            before: tag,
-            at: end,
-            commands: i,
-            thread_bytes: n,
-        };
-    }
-    Filler {
-        before: tag,
-        at: end,
-        commands: i,
-        thread_bytes: t,
+    match field.tag {
+        3 => Filler {
+            commands: fill_rows(content, xs, ys, kinds, f.commands),
+            ..f
+        },
+        2 => Filler {
+            thread_bytes: put_text(threads, f.thread_bytes, content),
+            ..f
+        },
+        _ => f,
     }
 }
 
 // All fields of a job without fault: the answers go to the front of the buffers.
 pub fn fill_job(job: &[u8], xs: &mut [i32], ys: &mut [i32], kinds: &mut [u8], threads: &mut [u8])
-    requires job_value { fault_of (job_fields job.now) ≡ Accepted }
+    requires job_value { fault_of (job_fields job.now) ≡ Ok tt }
     requires fits { Fits job.now (length xs.old) (length ys.old) (length kinds.old) (length threads.old) }
     ensures { Filled job.now xs.old xs.new ys.old ys.new kinds.old kinds.new threads.old threads.new }
 {
@@ -91,6 +76,7 @@ pub fn fill_job(job: &[u8], xs: &mut [i32], ys: &mut [i32], kinds: &mut [u8], th
         commands: 0,
         thread_bytes: 0,
     };
+    // Kept as while: each turn goes on by its field's own length.
     while f.at < job.len() {
         f = fill_field(job, f, xs, ys, kinds, threads);
     }

@@ -2,24 +2,22 @@
 // A port of src/formats/more.rs of zigzag, changed.
 #![tactic(auto)]
 
-ghost use Rattle.std.specs.Prelude.{◌≡◌, ◌&&◌, false, [], ◌∷◌, ◌+◌, ◌*◌, ◌≤◌, ltb, length, replicate};
+ghost use Rattle.std.specs.Prelude.{◌≡◌, ◌&&◌, false, [], ◌∷◌, ◌+◌, ◌*◌, ◌≤◌, ltb, length, replicate, Some, None};
 ghost use Rattle.rules.specs.Choices.{jef_entries};
 ghost use Rattle.rules.specs.Jef.{points_in, point_count_of, jef_hoop, half_up, edges, jef_table, jef_distance, words, jef_header, jef_file};
 ghost use Rattle.rules.specs.Lists.{commands, threads_of};
 ghost use Rattle.rules.specs.Refusals.{place_outside, step_too_long};
 ghost use Rattle.rules.specs.Promises.{Wrote};
-ghost use Rattle.rules.specs.declared.Extension.TheVariants.{Of};
 ghost use Rattle.rules.specs.declared.Format.TheVariants.{Jef};
-ghost use Rattle.rules.specs.declared.Previous.TheVariants.{First};
 ghost use Rattle.laws.specs.Buffers.{Puts};
 ghost use Rattle.emit.specs.Answered.{FileAnswered};
 ghost use Rattle.formats.specs.Matches.{Matches};
 ghost use Rattle.jef.specs.Header.{start_text, sizes_text};
 
 use emit::{put_text, put_times, put_word, put2, spread};
-use formats::{Matched, larger, list_len, near_bounds, op_of};
+use formats::{Matched, list_len, near_bounds, op_of};
 use jef_threads::{choice_in, distance_of, entry_of, jef_threads};
-use rules::{Color, Format, Op, Previous, Refusal, Verdict, WriteAnswer};
+use rules::{Color, Format, Op, Refusal, Written};
 use stream::{put_stream, stream_len};
 use stream_cmd::Stream;
 use write_refusals::check_list;
@@ -41,10 +39,8 @@ fn point_count(xs: &[i32], ys: &[i32], kinds: &[u8]) -> u32
 {
     let n = list_len(xs, ys, kinds);
     let mut total = 1;
-    let mut i = 0;
-    while i < n {
+    for i in 0..n {
         total += points_in(op_of(kinds[i]));
-        i += 1;
     }
     total
 }
@@ -52,12 +48,10 @@ fn point_count(xs: &[i32], ys: &[i32], kinds: &[u8]) -> u32
 fn is_under(w: u32, h: u32, wide: u32, high: u32) -> bool
     ensures { result ≡ (ltb w wide && ltb h high) }
 {
-    if w < wide {
-        return h < high;
-    }
-    false
+    w < wide && h < high
 }
 
+// Kept as a number: it is the file's own field, and the definition `jef_hoop` gives it.
 pub fn jef_hoop(w: u32, h: u32) -> u32
     ensures { result ≡ jef_hoop w h }
 {
@@ -112,22 +106,20 @@ fn put_edges(ex: u32, ey: u32, w: u32, h: u32, out: &mut [u8], at: usize) -> usi
 
 // The entries of the threads, each not that of a neighbour of another colour, and their largest distance.
 fn put_entries(threads: &[u8], out: &mut [u8], at: usize) -> Matched
-    requires { at + length (words (jef_entries First (threads_of threads.now))) ≤ length out.old }
-    ensures { Matches out at result (words (jef_entries First (threads_of threads.now))) (jef_distance (threads_of threads.now)) }
+    requires { at + length (words (jef_entries None (threads_of threads.now))) ≤ length out.old }
+    ensures { Matches out at result (words (jef_entries None (threads_of threads.now))) (jef_distance (threads_of threads.now)) }
 {
     let chart = jef_threads();
-    let mut last = Previous::First;
+    let mut last = None;
     let mut far: u32 = 0;
     let mut to = at;
-    let mut i = 0;
-    while i + 3 <= threads.len() {
-        let t = Color(threads[i], threads[i + 1], threads[i + 2]);
+    for thread in threads.chunks_exact(3) {
+        let t = Color(thread[0], thread[1], thread[2]);
         let chosen = choice_in(chart, last, t);
         let e = entry_of(chosen);
-        last = Previous::Entry(e, t);
-        far = larger(far, distance_of(chosen));
+        last = Some((e, t));
+        far = far.max(distance_of(chosen));
         to = put_word(out, to, e as u32);
-        i += 3;
     }
     Matched {
         end: to,
@@ -164,11 +156,9 @@ fn put_kinds(n: usize, out: &mut [u8], at: usize) -> usize
     requires { at + 4 * n ≤ length out.old }
     ensures { Puts out at result (words (replicate n 0x0D)) }
 {
-    let mut left = n;
     let mut to = at;
-    while 0 < left {
+    for i in 0..n {
         to = put_word(out, to, 0x0D);
-        left -= 1;
     }
     to
 }
@@ -240,17 +230,20 @@ fn write_accepted(
     kinds: &[u8],
     threads: &[u8],
     out: &mut [u8],
-) -> WriteAnswer
+) -> Result<Written, Refusal>
     requires kinds_len_bound { (length kinds.now ≤ 65535) × ((length threads.now ≤ 765) × (step_too_long Jef (commands xs.now ys.now kinds.now) ≡ false)) }
     requires kinds_value { place_outside (commands xs.now ys.now kinds.now) ≡ false }
     ensures { FileAnswered Jef [] (commands xs.now ys.now kinds.now) threads.now out.old out.new result }
 {
     let n = 116 + 8 * table_len(threads) + stream_len(Stream::Jef, xs, ys, kinds);
     if out.len() < n {
-        return WriteAnswer::Unwritten(Refusal::BufferTooShort);
+        return Err(Refusal::BufferTooShort);
     }
     let w = put_file(xs, ys, kinds, threads, out);
-    WriteAnswer::Written(w.end, w.distance)
+    Ok(Written {
+        len: w.end,
+        distance: w.distance,
+    })
 }
 
 // Writes a list as a JEF file to the front of the buffer: its length, and how far off the threads are; or why it is refused, and the buffer
@@ -261,12 +254,9 @@ pub fn write_jef(
     kinds: &[u8],
     threads: &[u8],
     out: &mut [u8],
-) -> WriteAnswer
-    ensures { Wrote (Of Jef) [] xs.now ys.now kinds.now threads.now out.old out.new result }
+) -> Result<Written, Refusal>
+    ensures { Wrote (Some Jef) [] xs.now ys.now kinds.now threads.now out.old out.new result }
 {
-    let checked = check_list(Format::Jef, xs, ys, kinds, threads);
-    match checked {
-        Verdict::Accepted => write_accepted(xs, ys, kinds, threads, out),
-        Verdict::Refused(why) => WriteAnswer::Unwritten(why),
-    }
+    check_list(Format::Jef, xs, ys, kinds, threads)?;
+    write_accepted(xs, ys, kinds, threads, out)
 }

@@ -2,116 +2,94 @@
 // A port of src/formats/more.rs of zigzag, changed.
 #![tactic(auto)]
 
-ghost use Rattle.std.specs.Prelude.{◌≡◌, set};
+ghost use Rattle.std.specs.Prelude.{◌≡◌, set, None};
 ghost use Rattle.rules.specs.Choices.{nearest_first_answer, jef_palette, jef_choice_answer};
-ghost use Rattle.rules.specs.declared.Slot.TheVariants.{Empty};
-ghost use Rattle.jef_threads.specs.Distances.{slot_distance, entry_in, distance_in};
+ghost use Rattle.jef_threads.specs.Distances.{entry_in, distance_in};
 
-use rules::{Color, JefNearest, Previous, Slot};
+use rules::Color;
 
 // The entries of the chart that may be chosen.
-pub fn jef_threads() -> [Slot; 79]
+pub fn jef_threads() -> [Option<Color>; 79]
     ensures { result ≡ jef_palette }
 {
-    let mut out = [Slot::Empty; 79];
-    let mut i = 1;
-    while i < 79 {
-        out[i] = Slot::Thread(jef_data::jef_thread(i));
-        i += 1;
+    let mut out = [None; 79];
+    for i in 1..79 {
+        out[i] = Some(jef_data::jef_thread(i));
     }
     out
 }
 
 // A palette with one entry left out.
-fn without(palette: [Slot; 79], skip: usize) -> [Slot; 79]
-    ensures { result ≡ set palette skip Empty }
+fn without(palette: [Option<Color>; 79], skip: usize) -> [Option<Color>; 79]
+    ensures { result ≡ set palette skip None }
 {
     let mut out = palette;
     if 79 <= skip {
         return out;
     }
-    out[skip] = Slot::Empty;
+    out[skip] = None;
     out
 }
 
-// The distance of an entry, and a number past all distances where there is none.
-fn slot_distance(color: Color, s: Slot) -> u32
-    ensures { result ≡ slot_distance color s }
-{
-    let Slot::Thread(t) = s else {
-        return 4294967295;
-    };
-    formats::color_distance(color, t)
-}
-
-// The entry at the least distance, and the distance; of equal distances the first.
-fn nearest_first(color: Color, palette: [Slot; 79]) -> JefNearest
+// JEF's choice: of equal distances the first.
+#[tactic(auto, unfolding(rules::specs::Choices::nearest_first_answer))]
+fn nearest_first(color: Color, palette: [Option<Color>; 79]) -> Option<(usize, u32)>
     ensures { result ≡ nearest_first_answer color palette }
 {
-    let mut at: usize = 79;
-    let mut least: u32 = 4294967295;
-    let mut i = 0;
-    while i < 79 {
-        let d = slot_distance(color, palette[i]);
-        if d < least {
-            least = d;
-            at = i;
-        }
-        i += 1;
-    }
-    if at == 79 {
-        return JefNearest::NoThread;
-    }
-    JefNearest::Near(at, least)
+    formats::nearest(false, color, &palette)
 }
 
 // The entry of an answer; 1 where there is no thread to choose.
-pub fn entry_of(f: JefNearest) -> usize
+pub fn entry_of(f: Option<(usize, u32)>) -> usize
     ensures { result ≡ entry_in f }
 {
     match f {
-        JefNearest::Near(i, _) => i,
-        JefNearest::NoThread => 1,
+        Some((i, _)) => i,
+        None => 1,
     }
 }
 
 // The distance of an answer; 0 where there is no thread to choose.
-pub fn distance_of(f: JefNearest) -> u32
+pub fn distance_of(f: Option<(usize, u32)>) -> u32
     ensures { result ≡ distance_in f }
 {
     match f {
-        JefNearest::Near(_, d) => d,
-        JefNearest::NoThread => 0,
+        Some((_, d)) => d,
+        None => 0,
     }
 }
 
 // The nearest entry but one.
-fn nearest_but(chart: [Slot; 79], t: Color, skip: usize) -> JefNearest
-    ensures { result ≡ nearest_first_answer t (set chart skip Empty) }
+fn nearest_but(chart: [Option<Color>; 79], t: Color, skip: usize) -> Option<(usize, u32)>
+    ensures { result ≡ nearest_first_answer t (set chart skip None) }
 {
     let palette = without(chart, skip);
     nearest_first(t, palette)
 }
 
 // The entry for a thread and its distance, with the chart at hand: the nearest, but never that of a neighbour of another colour.
-pub fn choice_in(chart: [Slot; 79], last: Previous, t: Color) -> JefNearest
+pub fn choice_in(
+    chart: [Option<Color>; 79],
+    last: Option<(usize, Color)>,
+    t: Color,
+) -> Option<(usize, u32)>
     requires { chart ≡ jef_palette }
     ensures { result ≡ jef_choice_answer last t }
 {
     let nearest = nearest_first(t, chart);
-    let Previous::Entry(i, u) = last else {
+    let Some((i, u)) = last else {
         return nearest;
     };
     if entry_of(nearest) != i {
         return nearest;
     }
-    if formats::same_color(u, t) {
+    if u == t {
         return nearest;
     }
     nearest_but(chart, t, i)
 }
 
-pub fn jef_choice(last: Previous, t: Color) -> JefNearest
+pub fn jef_choice(last: Option<(usize, Color)>, t: Color) -> Option<(usize, u32)>
     ensures { result ≡ jef_choice_answer last t }
 {
     choice_in(jef_threads(), last, t)

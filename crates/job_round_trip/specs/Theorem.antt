@@ -2,7 +2,7 @@
 -- refused, and imports as that name, those thread bytes and that list. So two jobs are equal exactly when these are. Any job fits buffers
 -- of a fifth of its length for the commands, and of half of it for the threads. Assumes nothing.
 use Prim.Native.Nat.{ℕ, zero, suc, ◌+◌, ◌*◌, ◌/◌, ◌%◌, ◌≤◌, ◌<◌}
-use Rattle.std.specs.Prelude.{◌≡◌, ◌↔◌, Bool, true, false, ◌||◌, ltb, eqb, ℤ, take, drop, get_or}
+use Rattle.std.specs.Prelude.{◌≡◌, ◌↔◌, Bool, true, false, ◌||◌, ltb, eqb, ℤ, take, drop, get_or, Ok, Result, ⊤}
 use Rattle.std.proofs.Math.Path.{refl}
 use Rattle.std.proofs.Common.{sym, ap, ◌∙◌, mod-eq_of_lt, arith, length-append, take-append-drop, take_at, drop_at}
 use Rattle.std.proofs.Math.Bool.{not}
@@ -23,8 +23,6 @@ use Rattle.rules.specs.Jobs.{job_xs, job_ys, job_kinds, job_refusals, job_no_roo
 use Rattle.rules.specs.Jobs.{field_of, row_of_cmd, thread_fields, commands_then, command_fields, job_of}
 use Rattle.rules.specs.Promises.{xs_of, ys_of, kinds_of}
 use Rattle.rules.specs.declared.Cmd.{Cmd}
-use Rattle.rules.specs.declared.Verdict.{Verdict}
-use Rattle.rules.specs.declared.Verdict.TheVariants.{Accepted}
 use Rattle.laws.specs.Tests.{by-test, or-no-left, or-no-right}
 use Rattle.laws.specs.Ints.{ints, InBits, abs_is}
 use Rattle.laws.specs.Twos.{bits-lt, signed-bits}
@@ -34,6 +32,7 @@ use Rattle.laws.specs.Places.{Small, every}
 use Rattle.laws.specs.Verdicts.{first-false, verdict-on}
 use Rattle.laws.specs.Jobs.{fields-step, rows_long}
 use Rattle.export_job.specs.Lengths.{fields-of-commands, length-rows, job-length}
+use Rattle.rules.specs.declared.Refusal.{Refusal}
 
 -- ---- a field comes back
 
@@ -120,7 +119,7 @@ chunk_back before cs rest h l few p =
 
 -- fields without a fault, their threads and commands
 pub record Holds (fs : Fields) (threads : List ℕ) (cs : List Cmd) : Type 0 where
-  pub sound : fault_of fs ≡ Accepted
+  pub sound : fault_of fs ≡ Ok tt
   pub threads_are : threads_in fs ≡ threads
   pub commands_are : commands_in fs ≡ cs
 
@@ -202,7 +201,7 @@ record Checked (xs ys : List ℤ) (kinds threads : List ℕ) : Type 0 where
   threads_few : length threads / 3 ≤ 255
   three : length threads % 3 ≡ 0
 
-checked : (xs ys : List ℤ) (kinds threads : List ℕ) → command_verdict xs ys kinds threads ≡ Accepted → Checked xs ys kinds threads
+checked : (xs ys : List ℤ) (kinds threads : List ℕ) → command_verdict xs ys kinds threads ≡ Ok tt → Checked xs ys kinds threads
 unfolding command_verdict verdict bad_list too_many
 checked xs ys kinds threads e =
     let b = first-false (bad_list xs ys kinds) _ _ e in
@@ -259,7 +258,7 @@ job_for name xs ys kinds threads = job_of name (commands xs ys kinds) threads
 
 -- The job is not refused, and its name, thread bytes and columns are those that were exported.
 pub record Back (name : List ℕ) (xs ys : List ℤ) (kinds threads : List ℕ) : Type 0 where
-  pub accepted : job_verdict (job_for name xs ys kinds threads) ≡ Accepted
+  pub accepted : job_verdict (job_for name xs ys kinds threads) ≡ Ok tt
   pub name_is : job_name (job_for name xs ys kinds threads) ≡ name
   pub threads_are : job_threads (job_for name xs ys kinds threads) ≡ threads
   pub xs_are : job_xs (job_for name xs ys kinds threads) ≡ xs
@@ -267,7 +266,7 @@ pub record Back (name : List ℕ) (xs ys : List ℤ) (kinds threads : List ℕ) 
   pub kinds_are : job_kinds (job_for name xs ys kinds threads) ≡ kinds
 
 module _ (name : List ℕ) (xs ys : List ℤ) (kinds threads : List ℕ) (short : length name ≤ longest_name)
-    (e : command_verdict xs ys kinds threads ≡ Accepted) where
+    (e : command_verdict xs ys kinds threads ≡ Ok tt) where
   -- the longest job: 64 bytes of a name, 255 threads, 65,535 commands in 66 fields
   pub job-bound : length (job_for name xs ys kinds threads) ≤ 329470
   job-bound =
@@ -292,8 +291,8 @@ module _ (name : List ℕ) (xs ys : List ℤ) (kinds threads : List ℕ) (short 
       }
 
 -- with buffers that hold what it has, an accepted job is not refused
-pub import-accepted : (job : List ℕ) (n m k l : ℕ) → job_verdict job ≡ Accepted → length (job_xs job) ≤ n → length (job_ys job) ≤ m
-    → length (job_kinds job) ≤ k → length (job_threads job) ≤ l → import_verdict job n m k l ≡ Accepted
+pub import-accepted : (job : List ℕ) (n m k l : ℕ) → job_verdict job ≡ Ok tt → length (job_xs job) ≤ n → length (job_ys job) ≤ m
+    → length (job_kinds job) ≤ k → length (job_threads job) ≤ l → import_verdict job n m k l ≡ Ok tt
 unfolding job_verdict import_verdict job_no_room verdict
 import-accepted job n m k l e a b c d =
     verdict-on (job_refusals job) _ e
@@ -311,8 +310,8 @@ pub record Same (name : List ℕ) (xs ys : List ℤ) (kinds threads name' : List
   pub same_threads : threads ≡ threads'
 
 pub same-job : (name : List ℕ) (xs ys : List ℤ) (kinds threads name' : List ℕ) (xs' ys' : List ℤ) (kinds' threads' : List ℕ)
-    → length name ≤ longest_name → command_verdict xs ys kinds threads ≡ Accepted
-    → length name' ≤ longest_name → command_verdict xs' ys' kinds' threads' ≡ Accepted
+    → length name ≤ longest_name → command_verdict xs ys kinds threads ≡ Ok tt
+    → length name' ≤ longest_name → command_verdict xs' ys' kinds' threads' ≡ Ok tt
     → (job_for name xs ys kinds threads ≡ job_for name' xs' ys' kinds' threads') ↔ Same name xs ys kinds threads name' xs' ys' kinds' threads'
 same-job name xs ys kinds threads name' xs' ys' kinds' threads' h e h' e' =
     let b = imports-back name xs ys kinds threads h e in
@@ -340,7 +339,7 @@ fuelled-holds P body none z s (suc n) x = s (fuelled body none n) (fuelled-holds
 size : Fields → ℕ
 size fs = 5 * length (commands_in fs) + 2 * length (threads_in fs)
 
-ended-fits : (v : Verdict) (n : ℕ) → size (ended v) ≤ n
+ended-fits : (v : Result ⊤ Refusal) (n : ℕ) → size (ended v) ≤ n
 unfolding size commands_in threads_in
 ended-fits v n = omega arith
 
@@ -390,8 +389,8 @@ fields_fit : (before : ℕ) (s : List ℕ) → size (fields_from before s) ≤ l
 unfolding fields_from
 fields_fit before s =
     fuelled-holds (λ (p : ℕ × List ℕ) (fs : Fields). size fs ≤ length p.1)
-    (λ (go : ℕ × List ℕ → Fields) (p : ℕ × List ℕ). field_then (λ t r. go (t, r)) p.0 p.1) (ended Accepted)
-    (λ p. ended-fits Accepted (length p.1))
+    (λ (go : ℕ × List ℕ → Fields) (p : ℕ × List ℕ). field_then (λ t r. go (t, r)) p.0 p.1) (ended (Ok tt))
+    (λ p. ended-fits (Ok tt) (length p.1))
     (λ go h p. field_fits (λ t r. go (t, r)) (λ t r. h (t, r)) p.0 p.1)
     (suc (length s)) (before, s)
 

@@ -1,6 +1,6 @@
 -- How far off threads are: `farthest` is the largest distance; and what was found so far, with the threads to come. Assumes nothing.
 use Prim.Native.Nat.{ℕ, zero, suc, ◌<◌, ◌≤◌, max}
-use Rattle.std.specs.Prelude.{◌≡◌, leb, length, get_or}
+use Rattle.std.specs.Prelude.{◌≡◌, leb, length, get_or, None, Option}
 use Rattle.std.proofs.Math.Path.{refl}
 use Rattle.std.proofs.Common.{◌∙◌, le_of_suc-le-suc, not-suc-le-zero}
 use mathlib.Core.List.{List, [], ◌∷◌}
@@ -9,14 +9,12 @@ use borrow.Author.Tests.{leb-true, leb-false}
 use Rattle.rules.specs.Charts.{color}
 use Rattle.rules.specs.Choices.{away, farthest}
 use Rattle.rules.specs.declared.Color.{Color}
-use Rattle.rules.specs.declared.Slot.{Slot}
-use Rattle.rules.specs.declared.Slot.TheVariants.{Empty}
 use Rattle.laws.specs.Tests.{by-test}
 
-module _ (palette : List Slot) where
+module _ (palette : List (Option Color)) where
   -- how far thread i is off the chart's own colour of entry i
   abbrev pub off_at : List Color → List ℕ → ℕ → ℕ
-  off_at ts es i = away (get_or ts i (color 0 0 0)) (get_or palette (get_or es i 0) Empty)
+  off_at ts es i = away (get_or ts i (color 0 0 0)) (get_or palette (get_or es i 0) None)
 
   -- no thread is farther off
   pub far-most : (ts : List Color) (es : List ℕ) (i : ℕ) → i < length ts → i < length es → off_at ts es i ≤ farthest palette ts es
@@ -39,14 +37,14 @@ module _ (palette : List Slot) where
   unfolding farthest
   far-met [] es = none refl
   far-met (t ∷ ts) [] = none refl
-  far-met (t ∷ ts) (e ∷ es) = by-test (leb (farthest palette ts es) (away t (get_or palette e Empty)))
-      (λ y. one 0 (omega arith) (omega arith) (omega (arith, leb-true (farthest palette ts es) (away t (get_or palette e Empty)) y)))
-      (λ y. later t ts e es (omega (arith, leb-false (farthest palette ts es) (away t (get_or palette e Empty)) y)) (far-met ts es))
+  far-met (t ∷ ts) (e ∷ es) = by-test (leb (farthest palette ts es) (away t (get_or palette e None)))
+      (λ y. one 0 (omega arith) (omega arith) (omega (arith, leb-true (farthest palette ts es) (away t (get_or palette e None)) y)))
+      (λ y. later t ts e es (omega (arith, leb-false (farthest palette ts es) (away t (get_or palette e None)) y)) (far-met ts es))
 
   -- one more thread, and no more
   module _ (far : ℕ) where
     pub far-more : (t : Color) (ts : List Color) (e : ℕ) (es : List ℕ)
-        → max far (farthest palette (t ∷ ts) (e ∷ es)) ≡ max (max far (away t (get_or palette e Empty))) (farthest palette ts es)
+        → max far (farthest palette (t ∷ ts) (e ∷ es)) ≡ max (max far (away t (get_or palette e None))) (farthest palette ts es)
     unfolding farthest
     far-more t ts e es = omega arith
 

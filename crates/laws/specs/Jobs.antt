@@ -1,10 +1,9 @@
 -- Jobs: the fields unfold by one, whatever the fuel, and the rows of a content by one. Assumes nothing.
-use Rattle.std.specs.Prelude.{ℕ, suc, ◌+◌, ◌*◌, ◌≤◌, ◌<◌, ◌≡◌, refl, Bool, true, false, ◌||◌, not, List, [], ◌∷◌, ltb, length, take, drop, get_or}
+use Rattle.std.specs.Prelude.{ℕ, suc, ◌+◌, ◌*◌, ◌≤◌, ◌<◌, ◌≡◌, refl, Bool, true, false, ◌||◌, not, List, [], ◌∷◌, ltb, length, take, drop, get_or, Ok}
 use Rattle.std.proofs.Common.{ap, arith, ltb-false, length-drop}
 use Rattle.rules.specs.Vocabulary.{pick, any, signed, from_little}
 use Rattle.rules.specs.Jobs.{Fields, ended, field, bad_tag, bad_length, follows, length_allowed, rows_of, unknown_kind, rows_in, content_then, field_then, fields_from}
 use Rattle.rules.specs.declared.Cmd.{Cmd}
-use Rattle.rules.specs.declared.Verdict.TheVariants.{Accepted}
 use Rattle.laws.specs.Fuel.{fuelled-step}
 use Rattle.laws.specs.Listing.{list-more}
 
@@ -37,7 +36,7 @@ pub fields-step : (before : ℕ) (s : List ℕ) → fields_from before s ≡ fie
 unfolding fields_from
 fields-step before s =
     fuelled-step {X = ℕ × List ℕ} {R = Fields} (λ p. length p.1)
-    (λ (go : ℕ × List ℕ → Fields) (p : ℕ × List ℕ). field_then (λ t r. go (t, r)) p.0 p.1) (ended Accepted)
+    (λ (go : ℕ × List ℕ → Fields) (p : ℕ × List ℕ). field_then (λ t r. go (t, r)) p.0 p.1) (ended (Ok tt))
     (λ f g p h. field-same (λ t r. f (t, r)) (λ t r. g (t, r)) p.0 p.1 (λ t r l. h (t, r) l))
     (suc (length s)) (before, s) (omega arith)
 

@@ -2,6 +2,7 @@
 pub mod Tests
 pub mod Tables
 pub mod Buffers
+pub mod Exits
 pub mod Fuel
 pub mod Ints
 pub mod Twos
@@ -18,6 +19,7 @@ pub mod Verdicts
 pub mod Arms
 pub mod Threads
 pub mod Names
+pub mod Prefixes
 pub mod Lengths
 pub mod Places
 pub mod Vp3Reading

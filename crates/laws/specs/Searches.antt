@@ -1,12 +1,11 @@
 -- Laws of tests over a list of any elements, by index, and of the first and the last place that passes. Assumes nothing.
 use Prim.Native.Nat.{ℕ, zero, suc, ◌<◌, suc-le-suc}
-use Rattle.std.specs.Prelude.{◌≡◌, Bool, true, false, length, get_or}
+use Rattle.std.specs.Prelude.{◌≡◌, Bool, true, false, length, get_or, Some, None}
 use Rattle.std.proofs.Math.Path.{refl}
 use mathlib.Core.List.{List, [], ◌∷◌}
 use Rattle.std.proofs.Math.Nat.{le_of_suc-le-suc}
 use Rattle.std.proofs.Common.{not-suc-le-zero, arith}
 use Rattle.rules.specs.Vocabulary.{all, next, first_where, or_else, last_where}
-use Rattle.rules.specs.declared.Found.TheVariants.{At, Missing}
 use Rattle.laws.specs.Tests.{and_left, and_right}
 
 -- The element at i passes the test, and those that beat it do not: those before it, or those after it.
@@ -38,12 +37,12 @@ module _ {A : Type 0} (p : A → Bool) (d : A) where
   all-at (x ∷ xs) e (suc j) l = all-at xs (and_right (p x) (all p xs) e) j (le_of_suc-le-suc l)
 
   -- the first place that passes, from what is known of the places, and back
-  pub first-none : (xs : List A) → Nowhere p d xs → first_where p xs ≡ Missing
+  pub first-none : (xs : List A) → Nowhere p d xs → first_where p xs ≡ None
   unfolding first_where next
   first-none [] h = refl
   first-none (x ∷ xs) h = rw (h 0 (omega arith), first-none xs (λ j l. h (suc j) (suc-le-suc l)))
 
-  pub first-is : (xs : List A) {i : ℕ} → Where before p d xs i → first_where p xs ≡ At i
+  pub first-is : (xs : List A) {i : ℕ} → Where before p d xs i → first_where p xs ≡ Some i
   unfolding first_where next
   first-is [] w = absurd (not-suc-le-zero w.inside)
   first-is (x ∷ xs) {i = zero} w = rw w.passes
@@ -54,12 +53,12 @@ module _ {A : Type 0} (p : A → Bool) (d : A) where
       )
 
   -- the last place that passes
-  pub last_none : (xs : List A) → Nowhere p d xs → last_where p xs ≡ Missing
+  pub last_none : (xs : List A) → Nowhere p d xs → last_where p xs ≡ None
   unfolding last_where next or_else
   last_none [] h = refl
   last_none (x ∷ xs) h = rw (h 0 (omega arith), last_none xs (λ j l. h (suc j) (suc-le-suc l)))
 
-  pub last-is : (xs : List A) {i : ℕ} → Where after p d xs i → last_where p xs ≡ At i
+  pub last-is : (xs : List A) {i : ℕ} → Where after p d xs i → last_where p xs ≡ Some i
   unfolding last_where next or_else
   last-is [] w = absurd (not-suc-le-zero w.inside)
   last-is (x ∷ xs) {i = zero} w = rw (last_none xs (λ j l. w.others (suc j) (suc-le-suc l) (omega arith)), w.passes)

@@ -1,13 +1,12 @@
 -- VP3: what holds of both faults of a field, and of what follows it, holds of the field. Assumes nothing.
 use Prim.Native.Nat.{ℕ, zero, suc, ◌+◌, ◌≤◌}
-use Rattle.std.specs.Prelude.{List, ltb, ℤ, pos, length}
+use Rattle.std.specs.Prelude.{List, ltb, ℤ, pos, length, Ok}
 use Rattle.std.proofs.Common.{arith}
 use borrow.Author.Tests.{ltb-false}
 use Rattle.std.proofs.Math.ListN.{length-take, length-drop}
 use Rattle.rules.specs.Vp3.{Blocks, ended, block, cut, passed, vp3_opening, from_big, fixed, skip, inside, part, text, beyond, starts, stitch_part, shifts, in_color_part, blocks_from}
 use Rattle.rules.specs.Vp3.{in_design_part, in_file_part, vp3_blocks}
 use Rattle.rules.specs.declared.Color.{Color}
-use Rattle.rules.specs.declared.Verdict.TheVariants.{Accepted}
 use Rattle.laws.specs.Tests.{by-test, pick-both}
 
 module _ (P : Blocks → Type 0) (if-cut : P cut) (if-passed : P passed) where
@@ -47,7 +46,7 @@ module _ (P : Blocks → Type 0) (if-cut : P cut) (if-passed : P passed) where
       fixed-all 4 _ e (λ u g l₇. starts-all n _ _ (fixed-all 4 _ g (λ v i l₈. starts-all n _ _
       (skip_all 3 _ i (λ j l₉. part-all 4 _ j (λ q k m₁. skip_all 3 _ q (λ bytes m₂. h _ _ rest _ bytes (omega arith))))))))))))))
 
-  module _ (if-ended : P (ended Accepted)) (if-block : (x y : ℤ) (c : Color) (bytes : List ℕ) (bs : Blocks) → P bs → P (block x y c bytes bs)) where
+  module _ (if-ended : P (ended (Ok tt))) (if-block : (x y : ℤ) (c : Color) (bytes : List ℕ) (bs : Blocks) → P bs → P (block x y c bytes bs)) where
     pub blocks-all : (n : ℕ) (x y : ℤ) (s : List ℕ) → P (blocks_from n x y s)
     unfolding blocks_from
     blocks-all zero x y s = if-ended

@@ -14,18 +14,15 @@ ghost use Rattle.pec.specs.Shorts.{ShortAt, Shorts, pairs};
 
 use emit::put2;
 use formats::{list_len, op_of};
-use geom::P;
-use pec_cmd::{cmd_len, is_short, low7, next, put_cmd, put_steps, start, step, steps_len};
+use geom::{P, step};
+use pec_cmd::{cmd_len, is_short, low7, next, put_cmd, put_steps, start, steps_len};
 use rules::Cmd;
 
 // A stitch that follows a stitch or a colour change: no stitch 00 00 goes before it.
 fn is_going(kind: u8, jumped: bool) -> bool
     ensures { result ≡ (not jumped && eqb kind 0) }
 {
-    if jumped {
-        return false;
-    }
-    kind == 0
+    !jumped && kind == 0
 }
 
 // Whether the command at i is a stitch whose two steps take one byte each.
@@ -46,10 +43,8 @@ fn are_short(xs: &[i32], ys: &[i32], kinds: &[u8], i: usize) -> bool
     ensures { result ≡ true → Shorts xs.now ys.now kinds.now i (i + 8) }
 {
     let mut all = true;
-    let mut k = i;
-    while k < i + 8 {
+    for k in i..i + 8 {
         all = all & is_short_at(xs, ys, kinds, k);
-        k += 1;
     }
     all
 }
@@ -62,6 +57,7 @@ fn short_till(xs: &[i32], ys: &[i32], kinds: &[u8], i: usize) -> usize
 {
     let n = list_len(xs, ys, kinds);
     let mut k = i;
+    // Kept as while: each turn goes on by eight commands.
     while k + 8 <= n {
         if !are_short(xs, ys, kinds, k) {
             return k;
@@ -86,13 +82,11 @@ fn put_shorts(
     requires i_in_bounds { at + 2 * (j - i) ≤ length out.old }
     ensures { Puts out at result (pairs xs.now ys.now i (j - i)) }
 {
-    let mut k = i;
     let mut to = at;
-    while k < j {
+    for k in i..j {
         let dx = step(xs[k - 1], xs[k]);
         let dy = step(ys[k - 1], ys[k]);
         to = put2(out, to, low7(dx), low7(dy));
-        k += 1;
     }
     to
 }
@@ -101,20 +95,7 @@ fn put_shorts(
 fn looks(jumped: bool, wait: usize) -> bool
     ensures { result ≡ (not jumped && eqb wait 0) }
 {
-    if jumped {
-        return false;
-    }
-    wait == 0
-}
-
-// One less, down to 0.
-fn one_less(wait: usize) -> usize
-    ensures { result ≤ wait }
-{
-    if wait == 0 {
-        return 0;
-    }
-    wait - 1
+    !jumped && wait == 0
 }
 
 // The command at i.
@@ -158,6 +139,7 @@ pub fn pec_len(xs: &[i32], ys: &[i32], kinds: &[u8]) -> usize
     let mut total = 0;
     let mut i = 0;
     let mut wait = 0;
+    // Kept as while: a turn goes on by one command or by a run of short stitches.
     while i < n {
         if looks(s.jumped, wait) {
             let end = short_till(xs, ys, kinds, i);
@@ -167,7 +149,7 @@ pub fn pec_len(xs: &[i32], ys: &[i32], kinds: &[u8]) -> usize
             wait = 8;
             continue;
         }
-        wait = one_less(wait);
+        wait = wait.saturating_sub(1);
         let c = cmd_at(xs, ys, kinds, i);
         let by = step_to(last, c);
         last = c;
@@ -195,6 +177,7 @@ pub fn pec_encode(xs: &[i32], ys: &[i32], kinds: &[u8], out: &mut [u8], at: usiz
     let mut to = at;
     let mut i = 0;
     let mut wait = 0;
+    // Kept as while: a turn goes on by one command or by a run of short stitches.
     while i < n {
         if looks(s.jumped, wait) {
             let end = short_till(xs, ys, kinds, i);
@@ -204,7 +187,7 @@ pub fn pec_encode(xs: &[i32], ys: &[i32], kinds: &[u8], out: &mut [u8], at: usiz
             wait = 8;
             continue;
         }
-        wait = one_less(wait);
+        wait = wait.saturating_sub(1);
         let c = cmd_at(xs, ys, kinds, i);
         let by = step_to(last, c);
         last = c;

@@ -14,6 +14,7 @@ use rules::Op;
 
 // Between two commands: no stitch or colour change since the last jump, or since the list began; the next colour byte is 02;
 // no command yet.
+// Kept as three flags: the definition `pec_next` has the three apart, and no value goes with one of them.
 #[derive(Clone, Copy)]
 pub struct State {
     pub jumped: bool,
@@ -37,13 +38,13 @@ pub fn next(s: State, op: Op) -> State
     match op {
         Op::Stitch => State {
             jumped: false,
-            two: s.two,
             opening: false,
+            ..s
         },
         Op::Jump => State {
             jumped: true,
-            two: s.two,
             opening: false,
+            ..s
         },
         Op::ColorChange => State {
             jumped: false,
@@ -51,9 +52,8 @@ pub fn next(s: State, op: Op) -> State
             opening: false,
         },
         Op::Trim | Op::End => State {
-            jumped: s.jumped,
-            two: s.two,
             opening: false,
+            ..s
         },
     }
 }
@@ -237,12 +237,4 @@ pub fn put_cmd(s: State, op: Op, dx: i32, dy: i32, out: &mut [u8], at: usize) ->
         Op::ColorChange => put_change(s, out, at),
         Op::End => put(out, at, 0xFF),
     }
-}
-
-// A step between two places that are near each other.
-pub fn step(from: i32, to: i32) -> i32
-    requires { nat_abs (to -ℤ from) ≤ 2048 }
-    ensures { result ≡ to -ℤ from }
-{
-    to - from
 }

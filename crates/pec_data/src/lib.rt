@@ -122,12 +122,10 @@ pub fn pec_icon_blank() -> [u8; 228]
     ensures { result ≡ blank_icon }
 {
     let mut icon = [0u8; 228];
-    let mut row = 2;
-    while row < 36 {
+    for row in 2..36 {
         let left = edge(row);
         icon[6 * row] = left;
         icon[6 * row + 5] = 128 / left;
-        row += 1;
     }
     closed(icon)
 }

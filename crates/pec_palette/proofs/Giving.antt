@@ -1,4 +1,5 @@
 -- The loop that gives each distinct thread an entry, and the entries of all threads. Assumes nothing.
+use Rattle.std.specs.Prelude.{Some, None, Option}
 use Prim.Native.Nat.{ℕ, ◌+◌, ◌≤◌, ◌<◌, max}
 use mathlib.Core.Path.{◌≡◌, refl, sym, ap, ◌∙◌}
 use mathlib.Core.Bool.{Bool, true, false, ◌&&◌, ◌||◌}
@@ -14,10 +15,6 @@ use Rattle.rules.specs.Charts.{color}
 use Rattle.rules.specs.Choices.{same_color, nearest_index, nearest_answer, away, pec_palette}
 use Rattle.rules.specs.Pec.{distinct, Given, give, given_to, found_or, unique_palette, pec_distance}
 use Rattle.rules.specs.declared.Color.{Color}
-use Rattle.rules.specs.declared.Nearest.{Nearest}
-use Rattle.rules.specs.declared.Nearest.TheVariants.{Near, NoThread}
-use Rattle.rules.specs.declared.Slot.{Slot}
-use Rattle.rules.specs.declared.Slot.TheVariants.{Empty, Thread}
 use Rattle.laws.specs.Tests.{by-test, and_left, and_right}
 use Rattle.laws.specs.Choosing.{choice-law, found_in, found_in_lem}
 use Rattle.laws.specs.Farthest.{far-more, far-end}
@@ -26,7 +23,7 @@ use Rattle.pec_palette.specs.Entries.{set_at, entries_in, off_in}
 
 -- nothing is given yet
 abbrev pub fresh : Given
-fresh = record { free = pec_palette; chart = replicate 65 Empty }
+fresh = record { free = pec_palette; chart = replicate 65 None }
 
 any_last : {A : Type 0} (p : A → Bool) (xs : List A) (x : A) → any p (xs ++ (x ∷ [])) ≡ (p x || any p xs)
 unfolding any
@@ -91,7 +88,7 @@ module _ (ts : List Color) (i : ℕ) {t : Color} {g : Given} (h : i < length ts)
     rest = rw (next, w.same t, y) at w.rest;
   }
 
-  pub giving-more : {found : Nearest} → found ≡ pick (any (same_color t) (take i ts)) NoThread (nearest_answer t g.free)
+  pub giving-more : {found : Option (ℕ × ℕ)} → found ≡ pick (any (same_color t) (take i ts)) None (nearest_answer t g.free)
       → Giving ts (i + 1) (give (found_in found) t g)
   unfolding give
   giving-more f = by-test (any (same_color t) (take i ts))
@@ -99,12 +96,12 @@ module _ (ts : List Color) (i : ℕ) {t : Color} {g : Given} (h : i < length ts)
       (λ y. rw (f, y, found_in_lem t g.free) (anew y))
 
 -- an entry given is one filled in both
-pub given_is : (found : Nearest) (t : Color) (free chart : List Slot)
-    → ◌≡◌ {A = Given} (record { free = set_at found Empty free; chart = set_at found (Thread t) chart })
+pub given_is : (found : Option (ℕ × ℕ)) (t : Color) (free chart : List (Option Color))
+    → ◌≡◌ {A = Given} (record { free = set_at found None free; chart = set_at found (Some t) chart })
     (give (found_in found) t (record { free = free; chart = chart }))
 unfolding set_at give
-given_is (Near i d) t free chart = refl
-given_is NoThread t free chart = refl
+given_is (Some (i, d)) t free chart = refl
+given_is None t free chart = refl
 
 pub giving-end : (ts : List Color) (i : ℕ) {g : Given} → length ts ≤ i → Giving ts i g → g ≡ given_to fresh (distinct [] ts)
 unfolding distinct given_to
@@ -112,7 +109,7 @@ giving-end ts i h w = rw (list-end ts i h) at w.rest
 
 -- ---- the entries of all threads, by the chart
 
-pub palette-is : (ts : List Color) {chart : List Slot} → chart ≡ (given_to fresh (distinct [] ts)).chart → entries_in chart ts ≡ unique_palette ts
+pub palette-is : (ts : List Color) {chart : List (Option Color)} → chart ≡ (given_to fresh (distinct [] ts)).chart → entries_in chart ts ≡ unique_palette ts
 unfolding unique_palette
 palette-is ts e = rw e
 
@@ -120,25 +117,25 @@ pub length-palette : (ts : List Color) → length (unique_palette ts) ≡ length
 unfolding unique_palette
 length-palette ts = length-map ts _
 
-pub entries-more : (chart : List Slot) (ts : List Color) (i : ℕ) {t : Color} {e : ℕ} → i < length ts → t ≡ get_or ts i (color 0 0 0) → e ≡ found_or 0 (nearest_index t chart)
+pub entries-more : (chart : List (Option Color)) (ts : List Color) (i : ℕ) {t : Color} {e : ℕ} → i < length ts → t ≡ get_or ts i (color 0 0 0) → e ≡ found_or 0 (nearest_index t chart)
     → entries_in chart (drop i ts) ≡ e ∷ entries_in chart (drop (i + 1) ts)
 entries-more chart ts i h e f = rw (list-more ts (color 0 0 0) i h, f, e)
 
-pub entries-end : (chart : List Slot) (ts : List Color) (i : ℕ) → length ts ≤ i → entries_in chart (drop i ts) ≡ []
+pub entries-end : (chart : List (Option Color)) (ts : List Color) (i : ℕ) → length ts ≤ i → entries_in chart (drop i ts) ≡ []
 entries-end chart ts i h = rw (list-end ts i h)
 
 -- ---- an entry found is one of the chart
 
-module _ (t : Color) (palette : List Slot) {found : Nearest} (e : found ≡ nearest_answer t palette) where
-  pub found_as : {g : Nearest} → found ≡ g → nearest_index t palette ≡ found_in g
+module _ (t : Color) (palette : List (Option Color)) {found : Option (ℕ × ℕ)} (e : found ≡ nearest_answer t palette) where
+  pub found_as : {g : Option (ℕ × ℕ)} → found ≡ g → nearest_index t palette ≡ found_in g
   found_as h = sym (found_in_lem t palette) ∙ ap found_in (sym e ∙ h)
 
-  pub found_inside : {k d : ℕ} → found ≡ Near k d → k < length palette
+  pub found_inside : {k d : ℕ} → found ≡ Some (k, d) → k < length palette
   found_inside {k} h = (choice-law true t palette k (found_as h)).1.inside
 
 -- ---- how far off the threads before i are, with the threads to come
 
-module _ (own chart : List Slot) (ts : List Color) where
+module _ (own chart : List (Option Color)) (ts : List Color) where
   abbrev pub Off : ℕ → ℕ → Type 0
   Off i far = max far (off_in own chart (drop i ts)) ≡ off_in own chart ts
 
@@ -146,7 +143,7 @@ module _ (own chart : List Slot) (ts : List Color) where
   off-start = omega arith
 
   pub off-more : (i : ℕ) {t : Color} {e d far' : ℕ} (far : ℕ) → i < length ts → t ≡ get_or ts i (color 0 0 0) → e ≡ found_or 0 (nearest_index t chart)
-      → d ≡ away t (get_or own e Empty) → far' ≡ max far d → Off i far → Off (i + 1) far'
+      → d ≡ away t (get_or own e None) → far' ≡ max far d → Off i far → Off (i + 1) far'
   off-more i {t} {e} far h at found off larger w =
       rw (larger, off)
       (sym (far-more own far t (drop (i + 1) ts) e (entries_in chart (drop (i + 1) ts))) ∙ rw (list-more ts (color 0 0 0) i h, ← at, ← found) at w)
@@ -155,7 +152,7 @@ module _ (own chart : List Slot) (ts : List Color) where
   off-end i far h w = sym (far-end own far []) ∙ rw (list-end ts i h) at w
 
 -- by the chart in which each distinct thread has its own entry
-pub off-all : (ts : List Color) {own chart : List Slot} → own ≡ pec_palette → chart ≡ (given_to fresh
+pub off-all : (ts : List Color) {own chart : List (Option Color)} → own ≡ pec_palette → chart ≡ (given_to fresh
     (distinct [] ts)).chart → off_in own chart ts ≡ pec_distance ts
 unfolding pec_distance
 off-all ts p e = rw (p, palette-is ts e)

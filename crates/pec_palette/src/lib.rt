@@ -2,53 +2,53 @@
 // A port of src/formats/pes.rs of zigzag, changed.
 #![tactic(auto)]
 
-ghost use Rattle.std.specs.Prelude.{◌≡◌, [], ◌+◌, ◌≤◌, length, replicate, take};
+ghost use Rattle.std.specs.Prelude.{◌≡◌, [], ◌+◌, ◌≤◌, length, replicate, take, None};
 ghost use Rattle.rules.specs.Vocabulary.{pick, any};
 ghost use Rattle.rules.specs.Choices.{same_color, nearest_answer, pec_palette};
 ghost use Rattle.rules.specs.Lists.{threads_of};
 ghost use Rattle.rules.specs.Pec.{distinct, given_to, unique_palette, pec_distance};
-ghost use Rattle.rules.specs.declared.Nearest.TheVariants.{NoThread};
-ghost use Rattle.rules.specs.declared.Slot.TheVariants.{Empty};
 ghost use Rattle.formats.specs.Matches.{Matches};
 ghost use Rattle.pec_palette.specs.Entries.{set_at, entry_in, entries_in, off_in};
 
 use emit::put;
-use formats::{Matched, away, larger, nearest_index, pec_palette, same_color};
+use formats::{Matched, away, nearest_index, pec_palette};
 use pec_threads::thread_at;
-use rules::{Color, Nearest, Slot};
+use rules::Color;
 
 // Whether one of the first n threads is t.
 fn is_seen(t: Color, threads: &[u8], n: usize) -> bool
     requires { n ≤ length (threads_of threads.now) }
     ensures { result ≡ any (same_color t) (take n (threads_of threads.now)) }
 {
-    let mut i = 0;
-    while i < n {
-        if same_color(t, thread_at(threads, i)) {
+    for i in 0..n {
+        if t == thread_at(threads, i) {
             return true;
         }
-        i += 1;
     }
     false
 }
 
 // The entry that thread i, which is t, is given: none where it has been given one before, or none is free.
-fn new_entry(t: Color, threads: &[u8], i: usize, free: [Slot; 65]) -> Nearest
+fn new_entry(t: Color, threads: &[u8], i: usize, free: [Option<Color>; 65]) -> Option<(usize, u32)>
     requires { i ≤ length (threads_of threads.now) }
-    ensures { result ≡ pick (any (same_color t) (take i (threads_of threads.now))) NoThread (nearest_answer t free) }
+    ensures { result ≡ pick (any (same_color t) (take i (threads_of threads.now))) None (nearest_answer t free) }
 {
     if is_seen(t, threads, i) {
-        return Nearest::NoThread;
+        return None;
     }
     nearest_index(t, free)
 }
 
 // The entries with one filled, if it was found.
-fn filled(found: Nearest, s: Slot, entries: [Slot; 65]) -> [Slot; 65]
+fn filled(
+    found: Option<(usize, u32)>,
+    s: Option<Color>,
+    entries: [Option<Color>; 65],
+) -> [Option<Color>; 65]
     ensures { result ≡ set_at found s entries }
 {
     let mut out = entries;
-    let Nearest::Near(i, _) = found else {
+    let Some((i, _)) = found else {
         return out;
     };
     if 65 <= i {
@@ -59,32 +59,30 @@ fn filled(found: Nearest, s: Slot, entries: [Slot; 65]) -> [Slot; 65]
 }
 
 // The chart in which each distinct thread stands at its own entry; `own` has the colours of PEC's.
-fn unique_chart(own: [Slot; 65], threads: &[u8]) -> [Slot; 65]
+fn unique_chart(own: [Option<Color>; 65], threads: &[u8]) -> [Option<Color>; 65]
     requires { own ≡ pec_palette }
-    ensures { result ≡ (given_to (record { free = pec_palette; chart = replicate 65 Empty }) (distinct [] (threads_of threads.now))).chart }
+    ensures { result ≡ (given_to (record { free = pec_palette; chart = replicate 65 None }) (distinct [] (threads_of threads.now))).chart }
 {
     let n = threads.len() / 3;
     let mut free = own;
-    let mut chart = [Slot::Empty; 65];
-    let mut i = 0;
-    while i < n {
+    let mut chart = [None; 65];
+    for i in 0..n {
         let t = thread_at(threads, i);
         let found = new_entry(t, threads, i, free);
-        let less = filled(found, Slot::Empty, free);
+        let less = filled(found, None, free);
         free = less;
-        let more = filled(found, Slot::Thread(t), chart);
+        let more = filled(found, Some(t), chart);
         chart = more;
-        i += 1;
     }
     chart
 }
 
 // The entry of a thread in the chart, 0 if there is none.
-fn entry_in(chart: [Slot; 65], t: Color) -> u8
+fn entry_in(chart: [Option<Color>; 65], t: Color) -> u8
     ensures { (result ≡ entry_in chart t) × (result ≤ 64) }
 {
     let found = nearest_index(t, chart);
-    let Nearest::Near(i, _) = found else {
+    let Some((i, _)) = found else {
         return 0;
     };
     i as u8
@@ -92,8 +90,8 @@ fn entry_in(chart: [Slot; 65], t: Color) -> u8
 
 // One byte for each thread, its entry in the chart; and the largest distance of a thread from the colour in `own` of its entry.
 fn put_entries(
-    own: [Slot; 65],
-    chart: [Slot; 65],
+    own: [Option<Color>; 65],
+    chart: [Option<Color>; 65],
     threads: &[u8],
     out: &mut [u8],
     at: usize,
@@ -104,13 +102,11 @@ fn put_entries(
     let n = threads.len() / 3;
     let mut far: u32 = 0;
     let mut to = at;
-    let mut i = 0;
-    while i < n {
+    for i in 0..n {
         let t = thread_at(threads, i);
         let e = entry_in(chart, t);
-        far = larger(far, away(t, own[e as usize]));
+        far = far.max(away(t, own[e as usize]));
         to = put(out, to, e);
-        i += 1;
     }
     Matched {
         end: to,

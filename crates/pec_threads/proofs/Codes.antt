@@ -1,4 +1,5 @@
 -- An entry fits a byte; the entries of the threads passed, and black's behind them. Assumes nothing.
+use Rattle.std.specs.Prelude.{Some, None, Option}
 use Prim.Native.Nat.{ℕ, ◌+◌, ◌≤◌, ◌<◌}
 use mathlib.Core.Path.{◌≡◌, refl, sym, ap, ◌∙◌}
 use mathlib.Core.Bool.{true}
@@ -14,8 +15,6 @@ use Rattle.rules.specs.Choices.{nearest_index, choices, pec_palette}
 use Rattle.rules.specs.Pec.{found_or}
 use Rattle.rules.specs.Pes.{thread_code}
 use Rattle.rules.specs.declared.Color.{Color}
-use Rattle.rules.specs.declared.Found.{Found}
-use Rattle.rules.specs.declared.Found.TheVariants.{At, Missing}
 use Rattle.laws.specs.Choosing.{choice-law}
 use Rattle.laws.specs.Tests.{by-test}
 use Rattle.pec_threads.specs.Codes.{code_of, Coded}
@@ -24,10 +23,10 @@ palette-length : length pec_palette ≡ 65
 unfolding pec_palette choices pec_chart
 palette-length = refl
 
-small_at : (t : Color) (f : Found) → nearest_index t pec_palette ≡ f → found_or 1 f < 65
+small_at : (t : Color) (f : Option ℕ) → nearest_index t pec_palette ≡ f → found_or 1 f < 65
 unfolding found_or
-small_at t (At k) e = omega (arith, (choice-law true t pec_palette k e).1.inside, palette-length)
-small_at t Missing e = omega arith
+small_at t (Some k) e = omega (arith, (choice-law true t pec_palette k e).1.inside, palette-length)
+small_at t None e = omega arith
 
 pub code-small : (t : Color) → code_of t < 65
 code-small t = small_at t (nearest_index t pec_palette) refl

@@ -10,7 +10,7 @@ ghost use Rattle.rules.specs.Pes.{thread_code};
 ghost use Rattle.pec_threads.specs.Codes.{code_of, Coded};
 
 use formats::{nearest_index, pec_palette};
-use rules::{Color, Nearest, Slot};
+use rules::Color;
 
 // Thread i, from its three bytes.
 pub fn thread_at(threads: &[u8], i: usize) -> Color
@@ -31,12 +31,12 @@ fn thread_or_black(threads: &[u8], i: usize) -> Color
 }
 
 // The nearest entry to a thread, with the chart at hand.
-fn code_in(chart: [Slot; 65], t: Color) -> usize
+fn code_in(chart: [Option<Color>; 65], t: Color) -> usize
     requires { chart ≡ pec_palette }
     ensures { result ≡ code_of t }
 {
     let found = nearest_index(t, chart);
-    let Nearest::Near(k, _) = found else {
+    let Some((k, _)) = found else {
         return 1;
     };
     k
@@ -57,13 +57,9 @@ pub fn thread_codes(threads: &[u8]) -> [u8; 256]
     let chart = pec_palette();
     let black = code_in(chart, Color(0, 0, 0)) as u8;
     let mut codes = [black; 256];
-    let mut i = 0;
-    while i < 256 {
-        if threads.len() / 3 <= i {
-            return codes;
-        }
+    let n = (threads.len() / 3).min(256);
+    for i in 0..n {
         codes[i] = code_in(chart, thread_at(threads, i)) as u8;
-        i += 1;
     }
     codes
 }

@@ -2,13 +2,12 @@
 // A port of src/formats/pes.rs of zigzag, changed.
 #![tactic(auto)]
 
-ghost use Rattle.std.specs.Prelude.{◌≡◌, false, ◌+◌, ◌≤◌, length};
+ghost use Rattle.std.specs.Prelude.{◌≡◌, false, ◌+◌, ◌≤◌, length, Some};
 ghost use Rattle.rules.specs.Lists.{commands, threads_of};
 ghost use Rattle.rules.specs.Pec.{pec_distance, pec_file};
 ghost use Rattle.rules.specs.Pes.{pes_file};
 ghost use Rattle.rules.specs.Refusals.{place_outside, step_too_long};
 ghost use Rattle.rules.specs.Promises.{Wrote};
-ghost use Rattle.rules.specs.declared.Extension.TheVariants.{Of};
 ghost use Rattle.rules.specs.declared.Format.TheVariants.{Pes, Pec};
 ghost use Rattle.laws.specs.Buffers.{Puts};
 ghost use Rattle.geom.specs.Frames.{bounds_of};
@@ -26,7 +25,7 @@ use pec_part::{part_len, write_pec};
 use pec_threads::thread_codes;
 use pes_blocks::{blocks_len, write_pes_blocks};
 use pes_sections::{Sizes, measured};
-use rules::{Format, Refusal, Verdict, WriteAnswer};
+use rules::{Format, Refusal, Written};
 use write_refusals::check_list;
 
 // A whole PEC file; n is how many bytes the stitches take.
@@ -58,18 +57,21 @@ fn pec_accepted(
     kinds: &[u8],
     threads: &[u8],
     out: &mut [u8],
-) -> WriteAnswer
+) -> Result<Written, Refusal>
     requires { (length kinds.now ≤ 65535) × ((length threads.now ≤ 765) × (step_too_long Pec (commands xs.now ys.now kinds.now) ≡ false)) }
     ensures { FileAnswered Pec name.now (commands xs.now ys.now kinds.now) threads.now out.old out.new result }
 {
     let n = pec_len(xs, ys, kinds);
     let long = 8 + part_len(xs, ys, kinds, threads, n);
     if out.len() < long {
-        return WriteAnswer::Unwritten(Refusal::BufferTooShort);
+        return Err(Refusal::BufferTooShort);
     }
     let b = stream_bounds(xs, ys, kinds);
     let w = put_pec_file(b, name, xs, ys, kinds, threads, n, out);
-    WriteAnswer::Written(w.end, w.distance)
+    Ok(Written {
+        len: w.end,
+        distance: w.distance,
+    })
 }
 
 // Writes a list as a PEC file to the front of the buffer: its length, and how far off the threads are; or why it is refused, and the buffer
@@ -81,14 +83,11 @@ pub fn write_pec_file(
     kinds: &[u8],
     threads: &[u8],
     out: &mut [u8],
-) -> WriteAnswer
-    ensures { Wrote (Of Pec) name.now xs.now ys.now kinds.now threads.now out.old out.new result }
+) -> Result<Written, Refusal>
+    ensures { Wrote (Some Pec) name.now xs.now ys.now kinds.now threads.now out.old out.new result }
 {
-    let checked = check_list(Format::Pec, xs, ys, kinds, threads);
-    match checked {
-        Verdict::Accepted => pec_accepted(name, xs, ys, kinds, threads, out),
-        Verdict::Refused(why) => WriteAnswer::Unwritten(why),
-    }
+    check_list(Format::Pec, xs, ys, kinds, threads)?;
+    pec_accepted(name, xs, ys, kinds, threads, out)
 }
 
 // The signature, the start of the PEC part, 1, 1, 1, 0xFFFF, 0.
@@ -142,7 +141,7 @@ fn pes_accepted(
     kinds: &[u8],
     threads: &[u8],
     out: &mut [u8],
-) -> WriteAnswer
+) -> Result<Written, Refusal>
     requires kinds_len_bound { (length kinds.now ≤ 65535) × ((length threads.now ≤ 765) × (step_too_long Pes (commands xs.now ys.now kinds.now) ≡ false)) }
     requires kinds_value { place_outside (commands xs.now ys.now kinds.now) ≡ false }
     ensures { FileAnswered Pes name.now (commands xs.now ys.now kinds.now) threads.now out.old out.new result }
@@ -152,11 +151,14 @@ fn pes_accepted(
     let n = pec_len(xs, ys, kinds);
     let long = 22 + blocks_len(z) + part_len(xs, ys, kinds, threads, n);
     if out.len() < long {
-        return WriteAnswer::Unwritten(Refusal::BufferTooShort);
+        return Err(Refusal::BufferTooShort);
     }
     let b = stream_bounds(xs, ys, kinds);
     let w = put_pes_file(b, name, xs, ys, kinds, &codes, threads, z, n, out);
-    WriteAnswer::Written(w.end, w.distance)
+    Ok(Written {
+        len: w.end,
+        distance: w.distance,
+    })
 }
 
 // Writes a list as a PES file to the front of the buffer: its length, and how far off the threads are in its PEC part; or why it is
@@ -168,12 +170,9 @@ pub fn pes_from_stream(
     kinds: &[u8],
     threads: &[u8],
     out: &mut [u8],
-) -> WriteAnswer
-    ensures { Wrote (Of Pes) name.now xs.now ys.now kinds.now threads.now out.old out.new result }
+) -> Result<Written, Refusal>
+    ensures { Wrote (Some Pes) name.now xs.now ys.now kinds.now threads.now out.old out.new result }
 {
-    let checked = check_list(Format::Pes, xs, ys, kinds, threads);
-    match checked {
-        Verdict::Accepted => pes_accepted(name, xs, ys, kinds, threads, out),
-        Verdict::Refused(why) => WriteAnswer::Unwritten(why),
-    }
+    check_list(Format::Pes, xs, ys, kinds, threads)?;
+    pes_accepted(name, xs, ys, kinds, threads, out)
 }

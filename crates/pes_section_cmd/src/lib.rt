@@ -73,14 +73,7 @@ pub fn goes_on(new: bool, kind: u8) -> bool
 pub fn moved(s: State, x: i32, y: i32) -> State
     ensures { state_of result ≡ moved_to (state_of s) x y }
 {
-    State {
-        before: s.before,
-        code: s.code,
-        thread: s.thread,
-        x,
-        y,
-        sections: s.sections,
-    }
+    State { x, y, ..s }
 }
 
 // After a colour change: a run of them moves on by one thread.
@@ -97,26 +90,16 @@ fn changed(
     requires thread_bound { s.thread ≤ 65536 }
     ensures { state_of result ≡ pes_next (threads_of threads.now) (state_of s) new ColorChange (record { x = x; y = y; kind = kind }) }
 {
-    let code = s.code;
     let thread = s.thread;
     if new {
         return State {
             before: kind,
             code: code_at(codes, threads, thread),
             thread: thread + 1,
-            x: s.x,
-            y: s.y,
-            sections: s.sections,
+            ..s
         };
     }
-    State {
-        before: kind,
-        code,
-        thread,
-        x: s.x,
-        y: s.y,
-        sections: s.sections,
-    }
+    State { before: kind, ..s }
 }
 
 // After a command of a kind, which leads to (x, y).
@@ -136,29 +119,18 @@ pub fn next(
     match op_of(kind) {
         Op::Stitch => State {
             before: kind,
-            code: s.code,
-            thread: s.thread,
             x,
             y,
             sections: s.sections + one_if(new),
+            ..s
         },
         Op::Jump => State {
             before: kind,
-            code: s.code,
-            thread: s.thread,
-            x: s.x,
-            y: s.y,
             sections: s.sections + one_if(new),
+            ..s
         },
         Op::ColorChange => changed(codes, threads, s, new, kind, x, y),
-        Op::Trim | Op::End => State {
-            before: kind,
-            code: s.code,
-            thread: s.thread,
-            x: s.x,
-            y: s.y,
-            sections: s.sections,
-        },
+        Op::Trim | Op::End => State { before: kind, ..s },
     }
 }
 

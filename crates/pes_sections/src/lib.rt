@@ -25,10 +25,8 @@ fn are_alike(kinds: &[u8], kind: u8, i: usize) -> bool
     ensures { result ≡ true → Alike kinds.now kind i (i + 8) }
 {
     let mut all = true;
-    let mut k = i;
-    while k < i + 8 {
+    for k in i..i + 8 {
         all = all & (kinds[k] == kind);
-        k += 1;
     }
     all
 }
@@ -39,6 +37,7 @@ fn alike_till(kinds: &[u8], kind: u8, i: usize, n: usize) -> usize
     ensures { (i ≤ result) × ((result ≤ n) × Alike kinds.now kind i result) }
 {
     let mut k = i;
+    // Kept as while: each turn goes on by eight commands.
     while k + 8 <= n {
         if !are_alike(kinds, kind, k) {
             return k;
@@ -55,14 +54,13 @@ fn run_end(xs: &[i32], ys: &[i32], kinds: &[u8], from: usize) -> usize
 {
     let n = list_len(xs, ys, kinds);
     let kind = kinds[from];
-    let mut i = alike_till(kinds, kind, from, n);
-    while i < n {
+    let rest = alike_till(kinds, kind, from, n);
+    for i in rest..n {
         if kinds[i] != kind {
             return i;
         }
-        i += 1;
     }
-    i
+    n
 }
 
 // The places from i to before j.
@@ -81,11 +79,9 @@ fn put_points(
     requires i_in_bounds { at + 4 * (j - i) ≤ length out.old }
     ensures { Puts out at result (points left bottom xs.now ys.now i (j - i)) }
 {
-    let mut k = i;
     let mut to = at;
-    while k < j {
+    for k in i..j {
         to = put_point(left, bottom, xs[k], ys[k], out, to);
-        k += 1;
     }
     to
 }
@@ -191,6 +187,7 @@ pub fn put_sections(
     let mut s = start(codes, threads);
     let mut to = at;
     let mut i = 0;
+    // Kept as while: a turn goes on by one command or by a whole run.
     while i < n {
         let kind = kinds[i];
         let new = is_new(s, kind);
@@ -227,6 +224,7 @@ pub fn measured(codes: &[u8; 256], threads: &[u8], xs: &[i32], ys: &[i32], kinds
     let mut logged = 0;
     let mut last = 65;
     let mut i = 0;
+    // Kept as while: a turn goes on by one command or by a whole run.
     while i < n {
         let kind = kinds[i];
         let new = is_new(s, kind);
@@ -270,6 +268,7 @@ pub fn put_log(
     let mut last = 65;
     let mut to = at;
     let mut i = 0;
+    // Kept as while: a turn goes on by one command or by a whole run.
     while i < n {
         let kind = kinds[i];
         let new = is_new(s, kind);

@@ -1,4 +1,5 @@
 -- Stored colours as the blocks take them. Assumes nothing.
+use Rattle.std.specs.Prelude.{Result}
 use Prim.Native.Nat.{ℕ, zero, suc, ◌%◌, ◌≤◌}
 use mathlib.Core.Path.{◌≡◌, refl, sym, ap, ◌∙◌}
 use mathlib.Core.List.{List, [], ◌∷◌}
@@ -13,11 +14,12 @@ use Rattle.rules.specs.Files.{or_default}
 use Rattle.read_records.specs.Firsts.{first_record_of}
 use Rattle.read_records.specs.declared.Row.{Row}
 use Rattle.rules.specs.Records.{Event, stitch, jump, change, events}
-use Rattle.rules.specs.declared.ReadAnswer.{ReadAnswer}
 use Rattle.rules.specs.Layout.{Stored, nothing, shade, charted}
 use Rattle.read_header.specs.Colors.{Held, Cells}
 use Rattle.read_builder.specs.Colour.{colour_in}
 use Rattle.read.specs.Answered.{RecordsGiven}
+use Rattle.rules.specs.declared.Refusal.{Refusal}
+use Rattle.rules.specs.declared.Counts.{Counts}
 
 -- blocks ask for colours by number only
 module _ (c d : ℕ → ℕ) (e : (k : ℕ) → c k ≡ d k) where
@@ -48,7 +50,7 @@ stored-colour f cells r s h k = elim (dec_lt k r) [
 ]
 
 -- the same answers by other names of the colours and the bytes
-pub answered-as : (f : Row) {c d : ℕ → ℕ} {bytes t : List ℕ} {P P' : List ℤ} {R R' B B' : List ℕ} {r : ReadAnswer} → ((k : ℕ) → c k ≡ d k) → bytes ≡ t
+pub answered-as : (f : Row) {c d : ℕ → ℕ} {bytes t : List ℕ} {P P' : List ℤ} {R R' B B' : List ℕ} {r : Result Counts Refusal} → ((k : ℕ) → c k ≡ d k) → bytes ≡ t
     → RecordsGiven c f bytes P P' R R' B B' r → RecordsGiven d f t P P' R R' B B' r
 answered-as f {c} {d} {bytes} e eb g = rw (← eb, ← blocks-same c d e 0 0 0 (events (first_record_of f) bytes)) g
 
@@ -61,6 +63,6 @@ module _ {f : ℕ → Stored} {cells : List ℕ} {n : ℕ} (w : Cells f cells n)
   cells-long = sym (length-take-le n cells cells-inside)
 
   -- records that are read by the table are read by what is stored
-  pub stored_answer : (g : Row) {bytes t : List ℕ} {P P' : List ℤ} {R R' B B' : List ℕ} {r : ReadAnswer} → bytes ≡ t
+  pub stored_answer : (g : Row) {bytes t : List ℕ} {P P' : List ℤ} {R R' B B' : List ℕ} {r : Result Counts Refusal} → bytes ≡ t
       → RecordsGiven (colour_in (take n cells)) g bytes P P' R R' B B' r → RecordsGiven (λ k. or_default (f k) k) g t P P' R R' B B' r
   stored_answer g = answered-as g (stored-colour f cells n w cells-inside)

@@ -1,4 +1,5 @@
 -- Refusal 11 by the sizes, and what a call gives back with and without it. Assumes nothing.
+use Rattle.std.specs.Prelude.{Ok, Err}
 use Prim.Native.Nat.{ℕ, ◌*◌, ◌≤◌}
 use mathlib.Core.Path.{◌≡◌, sym}
 use mathlib.Core.Bool.{true, false, ◌&&◌}
@@ -14,10 +15,8 @@ use Rattle.rules.specs.Files.{counts_of, read_answer, filled}
 use Rattle.rules.specs.Records.{Event, events}
 use Rattle.rules.specs.Refusals.{verdict}
 use Rattle.rules.specs.declared.Counts.{Counts}
-use Rattle.rules.specs.declared.ReadAnswer.TheVariants.{Read, Unread}
 use Rattle.rules.specs.declared.Record.{Record}
 use Rattle.rules.specs.declared.Refusal.TheVariants.{BufferTooShort}
-use Rattle.rules.specs.declared.Verdict.TheVariants.{Accepted, Refused}
 use Rattle.laws.specs.Tests.{by-test, false-true, and_left, and_right}
 use Rattle.read_records.specs.Firsts.{first_record_of}
 use Rattle.read_records.specs.declared.Row.{Row}
@@ -28,7 +27,7 @@ use Rattle.read_vp3.specs.Walks.{Told}
 use Rattle.read.specs.Answered.{room_for, room_verdict, Given}
 
 -- refusal 11 does not hold
-room : (ps : List ℤ) (rs bs : List ℕ) (np nr nb : ℕ) → length ps ≤ np → length rs ≤ nr → length bs ≤ nb → room_verdict ps rs bs np nr nb ≡ Accepted
+room : (ps : List ℤ) (rs bs : List ℕ) (np nr nb : ℕ) → length ps ≤ np → length rs ≤ nr → length bs ≤ nb → room_verdict ps rs bs np nr nb ≡ Ok tt
 unfolding room_verdict verdict
 room ps rs bs np nr nb hp hr hb = rw (le-ltb np (length ps) hp, le-ltb nr (length rs) hr, le-ltb nb (length bs) hb)
 
@@ -65,7 +64,7 @@ module _ {es : List Event} {z : Sizes} (c : ℕ → ℕ) (t : Sized es z) where
           blocks = omega (arith, t.blocks c, leb-true (block_cells_of * z.blocks) nb (and_right (leb z.runs nr) _ more));
         }
 
-    no_room_lem : room_for z np nr nb ≡ false → room_verdict ps rs bs np nr nb ≡ Refused BufferTooShort
+    no_room_lem : room_for z np nr nb ≡ false → room_verdict ps rs bs np nr nb ≡ Err BufferTooShort
     unfolding room_for room_verdict verdict
     no_room_lem e =
         rw (t.points, t.runs, t.blocks c)
@@ -78,16 +77,16 @@ module _ {es : List Event} {z : Sizes} (c : ℕ → ℕ) (t : Sized es z) where
         (λ p. rw (lt-ltb np (2 * z.points) (leb-false _ _ p))))
 
   pub given-unread : {P : List ℤ} {R B : List ℕ} {n : ℕ} → room_for z (length P) (length R) (length B) ≡ false
-      → Given ps P P rs R R bs B B n (Unread BufferTooShort)
+      → Given ps P P rs R R bs B B n (Err BufferTooShort)
   unfolding read_answer filled
   given-unread {P} {R} {B} e = let v = no_room_lem (length P) (length R) (length B) e in record { told = rw v; places = rw v; runs = rw v; blocks = rw v }
 
 module _ {es : List Event} (c : ℕ → ℕ) {P P' : List ℤ} {R R' B B' : List ℕ} {n : ℕ} {k : Counts} where
   pub given-read : Fits es c (length P) (length R) (length B)
       → k ≡ counts_of (places (pos 0) (pos 0) 0 es) (runs 0 es) (blocks c 0 0 0 es) n
-      → P' ≡ filled Accepted (places (pos 0) (pos 0) 0 es) P → R' ≡ filled Accepted (runs 0 es) R
-      → B' ≡ filled Accepted (blocks c 0 0 0 es) B
-      → Given (places (pos 0) (pos 0) 0 es) P P' (runs 0 es) R R' (blocks c 0 0 0 es) B B' n (Read k)
+      → P' ≡ filled (Ok tt) (places (pos 0) (pos 0) 0 es) P → R' ≡ filled (Ok tt) (runs 0 es) R
+      → B' ≡ filled (Ok tt) (blocks c 0 0 0 es) B
+      → Given (places (pos 0) (pos 0) 0 es) P P' (runs 0 es) R R' (blocks c 0 0 0 es) B B' n (Ok k)
   unfolding read_answer
   given-read h ek eP eR eB =
       let v = room (places (pos 0) (pos 0) 0 es) (runs 0 es) (blocks c 0 0 0 es) (length P) (length R) (length B) h.places h.runs h.blocks in

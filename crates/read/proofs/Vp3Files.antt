@@ -1,4 +1,5 @@
 -- A VP3 file that is not refused, and its answers at the front of the buffers. Assumes nothing.
+use Rattle.std.specs.Prelude.{Ok, Err, Result, ⊤}
 use Prim.Native.Nat.{ℕ, ◌≤◌}
 use mathlib.Core.Path.{◌≡◌, refl, ◌∙◌}
 use mathlib.Core.Bool.{true, false, not}
@@ -14,9 +15,6 @@ use Rattle.rules.specs.Text.{begins}
 use Rattle.rules.specs.Vp3.{vp3_opening, row_of, fault_in, events_in, vp3_blocks}
 use Rattle.rules.specs.declared.Counts.{Counts}
 use Rattle.rules.specs.declared.Format.TheVariants.{Vp3}
-use Rattle.rules.specs.declared.ReadAnswer.TheVariants.{Read}
-use Rattle.rules.specs.declared.Verdict.{Verdict}
-use Rattle.rules.specs.declared.Verdict.TheVariants.{Accepted, Refused}
 use Rattle.laws.specs.Buffers.{put-by, put_front}
 use Rattle.laws.specs.Verdicts.{first-false}
 use Rattle.read_refusals.proofs.Checked.{vp3-opened}
@@ -27,23 +25,24 @@ use Rattle.read_vp3.specs.Fills as fills
 use Rattle.read_vp3.specs.Walks.{Told}
 use Rattle.read.specs.Answered.{Opened, room_for, HeadGiven}
 use Rattle.read.proofs.Rooms.{Sized, fits_told_lem, given-read, of-vp3}
+use Rattle.rules.specs.declared.Refusal.{Refusal}
 
-row-accepts : (v : Verdict) → verdict (row_of v) ≡ Accepted → v ≡ Accepted
+row-accepts : (v : Result ⊤ Refusal) → verdict (row_of v) ≡ Ok tt → v ≡ Ok tt
 unfolding verdict row_of
-row-accepts Accepted e = e
-row-accepts (Refused r) e = e
+row-accepts (Ok u) e = e
+row-accepts (Err r) e = e
 
 -- the answer at the front, and the rest of the buffer as it was
-front_of_lem : {A : Type 0} (vs d : List A) → length vs ≤ length d → sets d 0 vs ≡ filled Accepted vs d
+front_of_lem : {A : Type 0} (vs d : List A) → length vs ≤ length d → sets d 0 vs ≡ filled (Ok tt) vs d
 unfolding filled
 front_of_lem vs d h = (put_front {d = d} {vs = vs} h (put-by {at = 0} {r = length vs} (omega arith) refl)).1
 
 module _ {s : List ℕ} {k : Counts} (o : Opened (head.Vp3 k) s) where
-  begun : (not (begins vp3_opening s) ≡ false) × (verdict (row_of (fault_in (vp3_blocks s))) ≡ Accepted)
+  begun : (not (begins vp3_opening s) ≡ false) × (verdict (row_of (fault_in (vp3_blocks s))) ≡ Ok tt)
   unfolding verdict
   begun = first-false (not (begins vp3_opening s)) _ _ o.told.0
 
-  pub sound : fault_in (vp3_blocks s) ≡ Accepted
+  pub sound : fault_in (vp3_blocks s) ≡ Ok tt
   sound = row-accepts (fault_in (vp3_blocks s)) begun.1
 
   pub long : 6 ≤ length s
@@ -65,7 +64,7 @@ module _ {s : List ℕ} {k : Counts} (o : Opened (head.Vp3 k) s) where
     }
 
   pub vp3-read : {P P' : List ℤ} {R R' B B' : List ℕ} → room_for (sizes_of k) (length P) (length R) (length B) ≡ true
-      → fills.Filled (vp3_blocks s) P P' R R' B B' → HeadGiven (head.Vp3 k) s P P' R R' B B' (Read k)
+      → fills.Filled (vp3_blocks s) P P' R R' B B' → HeadGiven (head.Vp3 k) s P P' R R' B B' (Ok k)
   vp3-read {P} {P'} {R} {R'} {B} {B'} room w =
       let c = fills.colour_by (vp3_blocks s) in
       let h = fits_told_lem c sized (length P) (length R) (length B) room in

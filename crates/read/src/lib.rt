@@ -2,12 +2,11 @@
 // A port of src/formats/read.rs of zigzag, changed.
 #![tactic(auto)]
 
-ghost use Rattle.std.specs.Prelude.{◌≡◌, false, ◌+◌, ◌≤◌, ◌<◌, length, drop, get_or};
+ghost use Rattle.std.specs.Prelude.{◌≡◌, false, ◌+◌, ◌≤◌, ◌<◌, length, drop, get_or, Some};
 ghost use Rattle.rules.specs.Jef.{jef_records};
 ghost use Rattle.rules.specs.Text.{word_at};
 ghost use Rattle.rules.specs.Refusals.{extension_of};
 ghost use Rattle.rules.specs.Promises.{ReadOf};
-ghost use Rattle.rules.specs.declared.Extension.TheVariants.{Of};
 ghost use Rattle.read_builder.specs.Colour.{colour_in};
 ghost use Rattle.read_refusals.specs.declared.Head.TheVariants.{Pec, Dst, Exp, Jef, Vp3};
 ghost use Rattle.read.specs.Answered.{Answered, HeadAnswered, Opened, room_for};
@@ -18,8 +17,8 @@ use read_fill::fill;
 use read_header::{dst_colors, jef_colors, part, pec_colors};
 use read_passes::{Sizes, ample, sizes_of};
 use read_records::Row;
-use read_refusals::{Head, Opening, front};
-use rules::{BLOCK_CELLS, Counts, DST_HEADER, Extension, Format, ReadAnswer, Refusal};
+use read_refusals::{Head, front};
+use rules::{BLOCK_CELLS, Counts, DST_HEADER, Format, Refusal};
 
 // Whether the answers fit: refusal 11 if not.
 fn has_room(c: Sizes, places: usize, runs: usize, blocks: usize) -> bool
@@ -42,18 +41,18 @@ fn read_records(
     places: &mut [i32],
     runs: &mut [u32],
     blocks: &mut [u32],
-) -> ReadAnswer
+) -> Result<Counts, Refusal>
     requires { length bytes.now ≤ 2097152 }
     ensures { Answered (colour_in colors.now) f bytes.now places runs blocks result }
 {
     if ample(bytes.len(), places.len(), runs.len(), blocks.len()) {
-        return ReadAnswer::Read(fill(f, bytes, colors, places, runs, blocks));
+        return Ok(fill(f, bytes, colors, places, runs, blocks));
     }
     let c = count(f, bytes);
     if has_room(c, places.len(), runs.len(), blocks.len()) {
-        return ReadAnswer::Read(fill(f, bytes, colors, places, runs, blocks));
+        return Ok(fill(f, bytes, colors, places, runs, blocks));
     }
-    ReadAnswer::Unread(Refusal::BufferTooShort)
+    Err(Refusal::BufferTooShort)
 }
 
 // The bytes from a place on.
@@ -72,7 +71,7 @@ fn read_pec(
     places: &mut [i32],
     runs: &mut [u32],
     blocks: &mut [u32],
-) -> ReadAnswer
+) -> Result<Counts, Refusal>
     requires file_len_bound { (length file.now ≤ 2097152) × (start < length file.now) }
     requires count_value { count ≡ get_or file.now (start + 48) 0 }
     ensures { HeadAnswered (Pec start count) file.now places runs blocks result }
@@ -89,7 +88,12 @@ fn read_pec(
     )
 }
 
-fn read_dst(file: &[u8], places: &mut [i32], runs: &mut [u32], blocks: &mut [u32]) -> ReadAnswer
+fn read_dst(
+    file: &[u8],
+    places: &mut [i32],
+    runs: &mut [u32],
+    blocks: &mut [u32],
+) -> Result<Counts, Refusal>
     requires { length file.now ≤ 2097152 }
     ensures { HeadAnswered Dst file.now places runs blocks result }
 {
@@ -106,7 +110,12 @@ fn read_dst(file: &[u8], places: &mut [i32], runs: &mut [u32], blocks: &mut [u32
 }
 
 // EXP stores no colours.
-fn read_exp(file: &[u8], places: &mut [i32], runs: &mut [u32], blocks: &mut [u32]) -> ReadAnswer
+fn read_exp(
+    file: &[u8],
+    places: &mut [i32],
+    runs: &mut [u32],
+    blocks: &mut [u32],
+) -> Result<Counts, Refusal>
     requires { length file.now ≤ 2097152 }
     ensures { HeadAnswered Exp file.now places runs blocks result }
 {
@@ -131,7 +140,7 @@ fn read_jef(
     places: &mut [i32],
     runs: &mut [u32],
     blocks: &mut [u32],
-) -> ReadAnswer
+) -> Result<Counts, Refusal>
     requires file_len_bound { length file.now ≤ 2097152 }
     requires file_value { word_at 0 file.now ≡ offset }
     ensures { HeadAnswered (Jef offset) file.now places runs blocks result }
@@ -155,15 +164,15 @@ fn read_vp3(
     places: &mut [i32],
     runs: &mut [u32],
     blocks: &mut [u32],
-) -> ReadAnswer
+) -> Result<Counts, Refusal>
     requires { Opened (Vp3 counts) file.now }
     ensures { HeadAnswered (Vp3 counts) file.now places runs blocks result }
 {
     if has_room(sizes_of(counts), places.len(), runs.len(), blocks.len()) {
         read_vp3::fill(file, places, runs, blocks);
-        return ReadAnswer::Read(counts);
+        return Ok(counts);
     }
-    ReadAnswer::Unread(Refusal::BufferTooShort)
+    Err(Refusal::BufferTooShort)
 }
 
 // A file that is not refused, by what its opening gave.
@@ -173,7 +182,7 @@ fn read_part(
     places: &mut [i32],
     runs: &mut [u32],
     blocks: &mut [u32],
-) -> ReadAnswer
+) -> Result<Counts, Refusal>
     requires { Opened head file.now }
     ensures { HeadAnswered head file.now places runs blocks result }
 {
@@ -193,14 +202,11 @@ pub fn read_stitch_file(
     places: &mut [i32],
     runs: &mut [u32],
     blocks: &mut [u32],
-) -> ReadAnswer
-    ensures { ReadOf (Of f) file.now places.old runs.old blocks.old places.new runs.new blocks.new result }
+) -> Result<Counts, Refusal>
+    ensures { ReadOf (Some f) file.now places.old runs.old blocks.old places.new runs.new blocks.new result }
 {
-    let found = front(f, file);
-    match found {
-        Opening::At(head) => read_part(head, file, places, runs, blocks),
-        Opening::Not(why) => ReadAnswer::Unread(why),
-    }
+    let head = front(f, file)?;
+    read_part(head, file, places, runs, blocks)
 }
 
 // Reads a file: points, runs and blocks into the buffers, and their counts; or why it is refused, and the buffers as they were.
@@ -210,12 +216,11 @@ pub fn read(
     places: &mut [i32],
     runs: &mut [u32],
     blocks: &mut [u32],
-) -> ReadAnswer
+) -> Result<Counts, Refusal>
     ensures { ReadOf (extension_of ext.now) file.now places.old runs.old blocks.old places.new runs.new blocks.new result }
 {
-    let named = extension_of(ext);
-    let Extension::Of(f) = named else {
-        return ReadAnswer::Unread(Refusal::UnknownExtension);
+    let Some(f) = extension_of(ext) else {
+        return Err(Refusal::UnknownExtension);
     };
     read_stitch_file(f, file, places, runs, blocks)
 }

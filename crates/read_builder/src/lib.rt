@@ -71,11 +71,9 @@ pub fn after_stitch(b: Builder, x: i32, y: i32) -> Builder
         x,
         y,
         run: b.run + 1 + o,
-        block: b.block,
         begun: b.begun + o,
         points: b.points + 1 + o,
-        runs: b.runs,
-        blocks: b.blocks,
+        ..b
     }
 }
 
@@ -98,11 +96,8 @@ pub fn after_jump(b: Builder, x: i32, y: i32) -> Builder
         x,
         y,
         run: 0,
-        block: b.block,
-        begun: b.begun,
-        points: b.points,
         runs: b.runs + one_if(b.run),
-        blocks: b.blocks,
+        ..b
     }
 }
 
@@ -117,9 +112,9 @@ pub fn after_change(b: Builder, x: i32, y: i32) -> Builder
         run: 0,
         block: b.block + 1,
         begun: 0,
-        points: b.points,
         runs: b.runs + one_if(b.run),
         blocks: b.blocks + one_if(b.begun),
+        ..b
     }
 }
 
@@ -148,6 +143,7 @@ impl Builder {
 }
 
 // The same three for the passes, which keep the builder by value: each passes it to the method by mutable reference and gives it back.
+// Kept beside the methods: the specification names both forms, and `docs/` names these.
 pub fn stitch(b: Builder, x: i32, y: i32) -> Builder
     requires { Small b }
     ensures { result ≡ stitched b x y }

@@ -18,6 +18,7 @@ use crate::triples::count_triples;
 use read_passes::Sizes;
 use read_records::Row;
 
+// Kept as a match: four arms of closed kinds, and one equation.
 pub fn count(f: Row, bytes: &[u8]) -> Sizes
     requires { length bytes.now ≤ 2097152 }
     ensures { Sized (first_record_of f) bytes.now result }

@@ -71,6 +71,7 @@ pub fn count_pairs(jef: bool, bytes: &[u8]) -> Sizes
     let mut t = none();
     let mut at: usize = 0;
     let end = last_turn(bytes.len(), 4);
+    // Kept as while: each turn goes on by its record's own length.
     while at < end {
         let p = pass_pair(jef, t, &table, bytes, at);
         t = p.t;

@@ -20,6 +20,7 @@ fn pass_jumps(bytes: &[u8], from: usize, end: usize) -> usize
     ensures lower_bound { from ≤ result }
 {
     let mut at = from;
+    // Kept as while: each turn goes on by its record's own length.
     while at < end {
         let w = four(bytes, at);
         let y = past(w);
@@ -102,6 +103,7 @@ pub fn count_steps(bytes: &[u8]) -> Sizes
     let mut t = none();
     let mut at: usize = 0;
     let end = last_turn(bytes.len(), 8);
+    // Kept as while: each turn goes on by its record's own length.
     while at < end {
         let p = pass_steps(t, bytes, at, end);
         t = p.t;

@@ -49,8 +49,7 @@ pub fn tally_one(t: Tally, s: u32) -> Tally
         stitches: t.stitches + s,
         runs: t.runs + s * (1 - t.running),
         running: s,
-        first: t.first,
-        blocks: t.blocks,
+        ..t
     }
 }
 
@@ -64,8 +63,7 @@ pub fn tally_many(t: Tally, n: u32) -> Tally
         stitches: t.stitches + n,
         runs: t.runs + (1 - t.running),
         running: 1,
-        first: t.first,
-        blocks: t.blocks,
+        ..t
     }
 }
 
@@ -84,11 +82,10 @@ pub fn tally_change(t: Tally) -> Tally
     ensures { result ≡ tallied_change t }
 {
     Tally {
-        stitches: t.stitches,
-        runs: t.runs,
         running: 0,
         first: t.runs,
         blocks: t.blocks + differ(t.runs, t.first),
+        ..t
     }
 }
 
@@ -149,6 +146,7 @@ pub fn count_rest(f: Row, bytes: &[u8], from: usize, first: Tally) -> Sizes
 {
     let mut t = first;
     let mut at = from;
+    // Kept as while: each turn goes on by its record's own length.
     while at < bytes.len() {
         let p = pass(f, bytes, t, at);
         t = p.t;

@@ -57,6 +57,7 @@ pub fn count_triples(bytes: &[u8]) -> Sizes
     let mut t = none();
     let mut at: usize = 0;
     let end = last_turn(bytes.len(), 12);
+    // Kept as while: each turn goes on by its record's own length.
     while at < end {
         let p = pass_triple(t, bytes, at);
         t = p.t;

@@ -21,7 +21,7 @@ use Rattle.read_passes.specs.Walks.{Bounded, Ready, Went}
 use Rattle.read_passes.proofs.Turns.{bounded-next, read}
 use Rattle.read_passes.proofs.Loops.{reach, stays, small, ready-next, one_on}
 use Rattle.read_fill.specs.Turns.{Turned, Hopped, none, more, RoomHere}
-use Rattle.read_fill.specs.declared.turn.Turn.{Turn}
+use Rattle.read_passes.specs.declared.Turn.{Turn}
 use Rattle.read_passes.proofs.Found.{stepped}
 use Rattle.read_fill.proofs.Laws.{turn-hopped}
 

@@ -10,7 +10,7 @@ use Rattle.read_builder.specs.Cuts.{cuts_left}
 use Rattle.read_builder.specs.declared.Builder.{Builder}
 use Rattle.read_passes.specs.Walks.{events_from}
 use Rattle.read_fill.specs.declared.triples.TripleTurn.{TripleTurn}
-use Rattle.read_fill.specs.declared.turn.Turn.{Turn}
+use Rattle.read_passes.specs.declared.Turn.{Turn}
 
 -- at `at`, the cuts counted and those left are all; an open run means that the last record was a stitch; and the numbers are small
 pub record Cutting (bytes : List ℕ) (b : Builder) (s n at : ℕ) : Type 0 where

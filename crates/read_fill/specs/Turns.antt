@@ -11,7 +11,7 @@ use Rattle.read_builder.specs.Builders.{origin, jumped}
 use Rattle.read_builder.specs.Colour.{colour_in}
 use Rattle.read_builder.specs.declared.Builder.{Builder}
 use Rattle.read_passes.specs.Walks.{Ready, Went, Ended}
-use Rattle.read_fill.specs.declared.turn.Turn.{Turn}
+use Rattle.read_passes.specs.declared.Turn.{Turn}
 
 -- there is room for all that is to come
 abbrev pub Room : Row → Bor (List ℕ) → Bor (List ℕ) → Builder → ℕ → MutBor (List ℤ) → MutBor (List ℕ) → MutBor (List ℕ) → Type 0

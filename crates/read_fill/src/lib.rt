@@ -6,11 +6,9 @@
 pub mod pairs;
 pub mod steps;
 pub mod triples;
-pub mod turn;
 
-ghost use Rattle.std.specs.Prelude.{◌≡◌, ◌≤◌, length};
+ghost use Rattle.std.specs.Prelude.{◌≡◌, ◌≤◌, length, Ok};
 ghost use Rattle.rules.specs.Files.{filled};
-ghost use Rattle.rules.specs.declared.Verdict.TheVariants.{Accepted};
 ghost use Rattle.read_records.specs.Firsts.{first_record_of};
 ghost use Rattle.read_builder.specs.Builders.{origin};
 ghost use Rattle.read_builder.specs.Colour.{colour_in};
@@ -20,8 +18,7 @@ ghost use Rattle.read_fill.specs.Cutting.{RowsOf, with_rows};
 
 use crate::pairs::fill_pairs;
 use crate::steps::fill_steps;
-use crate::triples::fill_triples;
-use crate::turn::Filled;
+use crate::triples::{Filled, fill_triples};
 use read_builder::Builder;
 use read_passes::settle;
 use read_records::Row;
@@ -61,12 +58,7 @@ fn with_rows(f: Row, c: Counts, rows: u32) -> Counts
 {
     match f {
         Row::Pec => c,
-        Row::Dst => Counts {
-            points: c.points,
-            runs: c.runs,
-            blocks: c.blocks,
-            cuts: rows,
-        },
+        Row::Dst => Counts { cuts: rows, ..c },
         Row::Exp => c,
         Row::Jef => c,
     }
@@ -84,9 +76,9 @@ pub fn fill(
     requires bytes_len_bound { length bytes.now ≤ 2097152 }
     requires fits { Fits (colour_in colors.now) (first_record_of f) bytes.now (length places.old) (length runs.old) (length blocks.old) }
     ensures told { Told f bytes.now result }
-    ensures places_value { places.new ≡ filled Accepted (places_in (first_record_of f) bytes.now) places.old }
-    ensures runs_value { runs.new ≡ filled Accepted (runs_in (first_record_of f) bytes.now) runs.old }
-    ensures blocks_value { blocks.new ≡ filled Accepted (blocks_in (colour_in colors.now) (first_record_of f) bytes.now) blocks.old }
+    ensures places_value { places.new ≡ filled (Ok tt) (places_in (first_record_of f) bytes.now) places.old }
+    ensures runs_value { runs.new ≡ filled (Ok tt) (runs_in (first_record_of f) bytes.now) runs.old }
+    ensures blocks_value { blocks.new ≡ filled (Ok tt) (blocks_in (colour_in colors.now) (first_record_of f) bytes.now) blocks.old }
 {
     let q = fill_records(f, bytes, colors, places, runs, blocks);
     let b = q.b;

@@ -1,40 +1,16 @@
 // EXP and JEF: two stitches, or one record, in a turn.
 // A port of src/formats/read.rs of zigzag, changed.
-ghost use Rattle.std.specs.Prelude.{◌≡◌, ◌+◌, ◌≤◌, eqb, pos, neg_ℤ, length, get_or};
-ghost use Rattle.rules.specs.Vocabulary.{pick, signed};
-ghost use Rattle.read_records.specs.declared.Row.TheVariants.{Exp, Jef};
+ghost use Rattle.std.specs.Prelude.{◌≡◌, ◌+◌, ◌≤◌, length, get_or};
+ghost use Rattle.read_records.specs.Firsts.{pair_row};
 ghost use Rattle.read_builder.specs.Builders.{origin};
 ghost use Rattle.read_records.specs.Tables.{Kinds};
 ghost use Rattle.read_fill.specs.Turns.{Room, Turns, Ends};
 
-use crate::turn::Turn;
 use read_builder::{Builder, new};
 use read_passes::answers::{change, hop, sew};
-use read_passes::{fill_rest, last_turn};
-use read_records::Row;
+use read_passes::{Turn, fill_rest, last_turn};
 use read_records::bytes::{minus8, s8};
-use read_records::pair::kinds;
-
-// The step of control c on each axis; 80 moves nothing.
-fn step_x(c: u8, b: u8) -> i32
-    ensures { result ≡ pick (eqb c 0x80) (pos 0) (signed 7 b) }
-{
-    let dx = s8(b);
-    if c == 0x80 {
-        return 0;
-    }
-    dx
-}
-
-fn step_y(c: u8, b: u8) -> i32
-    ensures { result ≡ pick (eqb c 0x80) (pos 0) (neg_ℤ (signed 7 b)) }
-{
-    let dy = minus8(b);
-    if c == 0x80 {
-        return 0;
-    }
-    dy
-}
+use read_records::pair::{kinds, row_of, step_x, step_y};
 
 // A control.
 fn turn_control(
@@ -51,8 +27,8 @@ fn turn_control(
     requires kinds { Kinds jef table.now }
     requires at_in_bounds { at + 4 ≤ length bytes.now }
     requires at_value { get_or bytes.now at 0 ≡ 0x80 }
-    requires room { Room (pick jef Jef Exp) bytes colors b at places runs blocks }
-    ensures { Turns (pick jef Jef Exp) bytes.now colors.now b at places runs blocks result }
+    requires room { Room (pair_row jef) bytes colors b at places runs blocks }
+    ensures { Turns (pair_row jef) bytes.now colors.now b at places runs blocks result }
 {
     let c = bytes[at + 1];
     let k = table[c as usize];
@@ -92,8 +68,8 @@ fn turn_pair(
 ) -> Turn
     requires kinds { Kinds jef table.now }
     requires at_in_bounds { at + 4 ≤ length bytes.now }
-    requires room { Room (pick jef Jef Exp) bytes colors b at places runs blocks }
-    ensures { Turns (pick jef Jef Exp) bytes.now colors.now b at places runs blocks result }
+    requires room { Room (pair_row jef) bytes colors b at places runs blocks }
+    ensures { Turns (pair_row jef) bytes.now colors.now b at places runs blocks result }
 {
     if bytes[at] == 0x80 {
         return turn_control(jef, b, table, bytes, at, colors, places, runs, blocks);
@@ -108,15 +84,6 @@ fn turn_pair(
     }
 }
 
-fn row_of(jef: bool) -> Row
-    ensures { result ≡ pick jef Jef Exp }
-{
-    if jef {
-        return Row::Jef;
-    }
-    Row::Exp
-}
-
 pub fn fill_pairs(
     jef: bool,
     bytes: &[u8],
@@ -125,13 +92,14 @@ pub fn fill_pairs(
     runs: &mut [u32],
     blocks: &mut [u32],
 ) -> Builder
-    requires { Room (pick jef Jef Exp) bytes colors origin 0 places runs blocks }
-    ensures { Ends (pick jef Jef Exp) bytes.now colors.now places runs blocks result }
+    requires { Room (pair_row jef) bytes colors origin 0 places runs blocks }
+    ensures { Ends (pair_row jef) bytes.now colors.now places runs blocks result }
 {
     let table = kinds(jef);
     let mut b = new();
     let mut at: usize = 0;
     let end = last_turn(bytes.len(), 4);
+    // Kept as while: each turn goes on by its record's own length.
     while at < end {
         let t = turn_pair(jef, b, &table, bytes, at, colors, places, runs, blocks);
         b = t.b;

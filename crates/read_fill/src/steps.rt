@@ -8,10 +8,9 @@ ghost use Rattle.read_records.specs.Words.{four_at, eight_at, masked};
 ghost use Rattle.read_passes.specs.Walks.{Bounded};
 ghost use Rattle.read_fill.specs.Turns.{Room, Turns, Ends, Hopped, RoomHere, Sewn};
 
-use crate::turn::Turn;
 use read_builder::{Builder, jump, new, sum};
 use read_passes::answers::{change, hop, sew};
-use read_passes::{fill_rest, last_turn};
+use read_passes::{Turn, fill_rest, last_turn};
 use read_records::Row;
 use read_records::words::{
     eight, first_of, four, past, pec_step, pec_steps, sews_by, short_long, step_of, top, two_long,
@@ -31,6 +30,7 @@ fn hop_row(steps: &[i32], first: Builder, bytes: &[u8], from: usize, end: usize)
 {
     let mut b = first;
     let mut at = from;
+    // Kept as while: each turn goes on by its record's own length.
     while at < end {
         let w = four(bytes, at);
         let y = past(w);
@@ -204,6 +204,7 @@ pub fn fill_steps(
     let mut b = new();
     let mut at: usize = 0;
     let end = last_turn(bytes.len(), 8);
+    // Kept as while: each turn goes on by its record's own length.
     while at < end {
         let t = turn_steps(&steps, b, bytes, at, end, colors, places, runs, blocks);
         b = t.b;

@@ -7,13 +7,19 @@ ghost use Rattle.read_records.specs.Tables.{DstSteps};
 ghost use Rattle.read_fill.specs.Turns.{Room, Turns, Ends};
 ghost use Rattle.read_fill.specs.Cutting.{Cutting, RowsOf, turn_to, turn_of};
 
-use crate::turn::Filled;
 use read_builder::cuts::{cuts_after_stitch, since_after_jump};
 use read_builder::{Builder, new};
 use read_passes::answers::{change, hop, sew};
 use read_passes::fill_rest;
 use read_records::Row;
 use read_records::triples::{dst_dx, dst_dy, dst_steps};
+
+// The builder after all records, and the cuts of a DST.
+#[derive(Clone, Copy)]
+pub struct Filled {
+    pub b: Builder,
+    pub rows: u32,
+}
 
 // After a turn: the builder; what is counted of the cuts, in numbers that do not lie side by side (see `cuts.rt`); and the place of the
 // next record.
@@ -105,6 +111,7 @@ pub fn fill_triples(
     let mut cuts: u32 = 0;
     let mut at: usize = 0;
     let end = whole_records(bytes.len());
+    // Kept as while: each turn goes on by its record's own length.
     while at < end {
         let t = turn_triple(
             b, since, cuts, &xs, &ys, bytes, at, colors, places, runs, blocks,

@@ -1,4 +1,5 @@
 -- Laws on a table of colours that a loop fills. Assumes nothing.
+use Rattle.std.specs.Prelude.{Some, None, Option}
 use Prim.Native.Nat.{ℕ, suc, ◌+◌, ◌*◌, ◌^◌, ◌-◌, ◌≤◌, ◌<◌, min}
 use mathlib.Core.Path.{◌≡◌, refl, sym, ap, subst, ◌∙◌}
 use mathlib.Core.Bool.{Bool, ◌&&◌}
@@ -19,13 +20,9 @@ use Rattle.rules.specs.Dst.{line_color, add_color, six_digits, drop_hashes, befo
 use Rattle.rules.specs.Layout.{Stored, shade, shade_at}
 use Rattle.rules.specs.Jef.{jef_count}
 use Rattle.rules.specs.declared.Color.{Color}
-use Rattle.rules.specs.declared.Slot.{Slot}
-use Rattle.rules.specs.declared.Slot.TheVariants.{Empty, Thread}
 use Rattle.laws.specs.Ints.{ret, lt-true, lt-false, true-le, false-le}
 use Rattle.laws.specs.Tests.{by-test, pick_true, pick-false, pick-both}
 use Rattle.read_header.specs.Words.{word_of}
-use Rattle.read_header.specs.declared.Word.{Word}
-use Rattle.read_header.specs.declared.Word.TheVariants.{Number, Missing}
 use Rattle.read_header.specs.Colors.{Held, Cells, Added}
 use Rattle.read_header.proofs.Lines.{begun-long}
 
@@ -96,23 +93,23 @@ module _ (whole : List Color) (cells : List ℕ) (n at e : ℕ) (room : n < 256)
         after = λ j. let p : n + 1 + j ≡ n + suc j = omega arith in ap (shade_at whole) p ∙ w.after (suc j);
       }
 
-  pub listed_more : (c : Slot) {rest rest' : List Color} {r : ℕ} {cells' : List ℕ} → Added c n cells r cells' → rest ≡ add_color c rest' → at ≤ e
-      → ((t : Color) → c ≡ Thread t → 3 ≤ e - at) → Listed whole rest cells n at → Listed whole rest' cells' r (e + 1)
+  pub listed_more : (c : Option Color) {rest rest' : List Color} {r : ℕ} {cells' : List ℕ} → Added c n cells r cells' → rest ≡ add_color c rest' → at ≤ e
+      → ((t : Color) → c ≡ Some t → 3 ≤ e - at) → Listed whole rest cells n at → Listed whole rest' cells' r (e + 1)
   unfolding add_color
-  listed_more Empty {rest} {rest'} g p l long w = rw (g.0, g.1) (record {
+  listed_more None {rest} {rest'} g p l long w = rw (g.0, g.1) (record {
     size = w.size;
     bytes = omega arith;
     held = w.held;
     after = λ j. w.after j ∙ ap (λ (t : List Color). shade_at t j) p;
   })
-  listed_more (Thread t) {rest} {rest'} g p l long w =
+  listed_more (Some t) {rest} {rest'} g p l long w =
       rw (g.0, g.1.1.1) (one_more t rest' g.1.1.0 (long t refl) (subst (λ (r : List Color). Listed whole r cells n at) p w))
 
 -- a line that gives a colour begins with three bytes
-pub color-long : (l : List ℕ) (t : Color) → line_color l ≡ Thread t → 3 ≤ length l
+pub color-long : (l : List ℕ) (t : Color) → line_color l ≡ Some t → 3 ≤ length l
 unfolding line_color
-color-long l t e = by-test (begins (0x54 ∷ 0x43 ∷ 0x3A ∷ []) l) (begun-long l 0x54 0x43 0x3A)
-    (λ b. let z : ◌≡◌ {A = Slot} Empty (Thread t) = sym (ap (λ (x : Bool). pick x (six_digits (drop_hashes (trimmed (before_comma (drop 3 l))))) Empty) b) ∙ e in
+color-long l t e = by-test (begins (0x54 ∷ 0x43 ∷ 0x3A ∷ []) l) (begun-long l (0x54 ∷ 0x43 ∷ 0x3A ∷ []))
+    (λ b. let z : ◌≡◌ {A = Option Color} None (Some t) = sym (ap (λ (x : Bool). pick x (six_digits (drop_hashes (trimmed (before_comma (drop 3 l))))) None) b) ∙ e in
     let y : ◌≡◌ {A = ℕ} 0 1 = cc in absurd (omega arith))
 
 pub jef-most : (s : List ℕ) {n : ℕ} → n ≡ jef_count s → n ≤ 256
@@ -121,22 +118,22 @@ jef-most s e = rw e (pick-both (λ (n : ℕ). n ≤ 256) (leb 28 (length s) && l
 
 -- ---- a number that is there, and one that is missing
 
-module _ (at : ℕ) (s : List ℕ) {w : Word} (i : w ≡ word_of at s) where
-  pub word-there : {z : ℤ} → w ≡ Number z → mag z < 2 ^ 31 → (at + 4 ≤ length s) × (word_at at s ≡ to_z w32 (of_z w32 z))
+module _ (at : ℕ) (s : List ℕ) {w : Option ℤ} (i : w ≡ word_of at s) where
+  pub word-there : {z : ℤ} → w ≡ Some z → mag z < 2 ^ 31 → (at + 4 ≤ length s) × (word_at at s ≡ to_z w32 (of_z w32 z))
   word-there {z} e h = by-test (leb (at + 4) (length s))
-      (λ b. let q = pick_true (Number (word_at at s)) Missing b in let y : word_at at s ≡ z = cc in (leb-true _ _ b, y ∙ sym (ret w32 z h)))
-      (λ b. let q = pick-false (Number (word_at at s)) Missing b in let y : ◌≡◌ {A = ℕ} 0 1 = cc in absurd (omega arith))
+      (λ b. let q = pick_true (Some (word_at at s)) None b in let y : word_at at s ≡ z = cc in (leb-true _ _ b, y ∙ sym (ret w32 z h)))
+      (λ b. let q = pick-false (Some (word_at at s)) None b in let y : ◌≡◌ {A = ℕ} 0 1 = cc in absurd (omega arith))
 
-  pub word-missing : w ≡ Missing → length s < at + 4
+  pub word-missing : w ≡ None → length s < at + 4
   word-missing e = by-test (leb (at + 4) (length s))
-      (λ b. let q = pick_true (Number (word_at at s)) Missing b in let y : ◌≡◌ {A = ℕ} 0 1 = cc in absurd (omega arith))
+      (λ b. let q = pick_true (Some (word_at at s)) None b in let y : ◌≡◌ {A = ℕ} 0 1 = cc in absurd (omega arith))
       (leb-false _ _)
 
 -- the count of a JEF file, by the number at 24
 abbrev pub counted : ℤ → ℕ
 counted z = pick (lt_z z (pos 0)) 0 (min (nat_abs z) 256)
 
-pub jef-counted : (s : List ℕ) {w : Word} {z : ℤ} → w ≡ word_of 24 s → w ≡ Number z → mag z < 2 ^ 31 → jef_count s
+pub jef-counted : (s : List ℕ) {w : Option ℤ} {z : ℤ} → w ≡ word_of 24 s → w ≡ Some z → mag z < 2 ^ 31 → jef_count s
     ≡ counted (to_z w32 (of_z w32 z))
 unfolding jef_count
 jef-counted s {w} {z} i e h = let t = word-there 24 s i e h in let y : ℤ = to_z w32 (of_z w32 z) in

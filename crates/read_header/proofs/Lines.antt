@@ -1,20 +1,20 @@
 -- Laws on the lines of a text that is read from a place on. Assumes nothing.
 use Prim.Native.Nat.{ℕ, ◌+◌, ◌-◌, ◌≤◌, ◌<◌}
 use mathlib.Core.Path.{◌≡◌, refl, sym, ap, ◌∙◌}
-use mathlib.Core.Bool.{Bool, true, false, ◌&&◌, and-true, and-false}
+use mathlib.Core.Bool.{Bool, true, false, ◌||◌}
 use mathlib.Core.List.{List, [], ◌∷◌}
 use native.Mathlib.Omega.{arith}
 use lib.Dec.{eqb}
+use native.Mathlib.Numerals.{one-add}
 use native.Mathlib.Decide.{dec_lt}
-use lib.ListN.{length, get_or, take, drop, length-take, length-drop}
+use lib.ListN.{length, take, drop, length-take, length-drop}
 use lib.Seq.{drop-drop}
 use Rattle.rules.specs.Vocabulary.{pick, same_bytes}
 use Rattle.rules.specs.Text.{lines_of, cut_before, begins}
 use Rattle.rules.specs.Dst.{last_label}
-use Rattle.laws.specs.Tests.{clash, by-test, pick-le, pick-gt}
+use Rattle.laws.specs.Tests.{clash, and_right, by-test, pick-le, pick-gt}
 use Rattle.read_header.proofs.Texts.{drop-take}
-use Rattle.read_header.specs.Scans.{stops_at, until}
-use Rattle.read_header.specs.declared.Stop.TheVariants.{LineEnd}
+use Rattle.std.specs.List.{position_or_len}
 use Rattle.read_header.specs.Lines.{lines_from, Line}
 use Rattle.read_header.proofs.Scans.{until-inside}
 
@@ -35,50 +35,39 @@ lines_left s at k h e = rw e (let l = length-drop at s in elim (dec_lt (length s
       ∙ sym (pick-le (at + k) (length s) _ _ (omega arith))
 ])
 
--- the first line ends where a scan for a line's end stops
-line_first : (s : List ℕ) → lines_of s ≡ take (until (stops_at LineEnd) s) s ∷ lines_from (until (stops_at LineEnd) s + 1) s
-unfolding lines_of cut_before until
-line_first [] = rw (lines_none [] 1 (omega arith))
-line_first (b ∷ s) = by-test (stops_at LineEnd b)
-    (λ e. rw (e, ← lines_left (b ∷ s) 1 0 {m = 1} (omega arith) refl, lines-all s))
-    (λ e. rw (e, line_first s) (ap (◌∷◌ (b ∷ take (until (stops_at LineEnd) s) s))
-    (lines_left (b ∷ s) 1 (until (stops_at LineEnd) s + 1) (omega arith) (omega arith))))
+-- a byte ends a line
+abbrev pub ends_line : ℕ → Bool
+ends_line b = eqb b 0x0D || eqb b 0x0A
 
-pub line_at : (s : List ℕ) (at : ℕ) {e : ℕ} → at ≤ length s → e ≡ at + until (stops_at LineEnd) (drop at s) → Line s at e
+-- the first line ends where a scan for a line's end stops
+line_first : (s : List ℕ) → lines_of s ≡ take (position_or_len ends_line s) s ∷ lines_from (position_or_len ends_line s + 1) s
+unfolding lines_of cut_before
+line_first [] = rw (lines_none [] 1 (omega arith))
+line_first (b ∷ s) = by-test (ends_line b)
+    (λ e. rw (e, ← lines_left (b ∷ s) 1 0 {m = 1} (omega arith) refl, lines-all s))
+    (λ e. rw (e, line_first s) (rw (one-add (position_or_len ends_line s)) (ap (◌∷◌ (b ∷ take (position_or_len ends_line s) s))
+    (lines_left (b ∷ s) 1 (position_or_len ends_line s + 1) (omega arith) (omega arith)))))
+
+pub line_at : (s : List ℕ) (at : ℕ) {e : ℕ} → at ≤ length s → e ≡ at + position_or_len ends_line (drop at s) → Line s at e
 unfolding lines_from
 line_at s at {e} h p =
-    let n = until-inside (stops_at LineEnd) (drop at s) in
+    let n = until-inside ends_line (drop at s) in
     let l = length-drop at s in
-    let q : e - at ≡ until (stops_at LineEnd) (drop at s) = omega arith in
+    let q : e - at ≡ position_or_len ends_line (drop at s) = omega arith in
     record {
       starts = omega arith;
       inside = omega arith;
       lines = pick-le at (length s) _ _ h ∙ line_first (drop at s)
-          ∙ rw (q, lines_left s at (until (stops_at LineEnd) (drop at s) + 1) {m = e + 1} h (omega arith));
+          ∙ rw (q, lines_left s at (position_or_len ends_line (drop at s) + 1) {m = e + 1} h (omega arith));
     }
 
--- ---- a line that begins with three bytes
+-- ---- a line that begins with given bytes
 
-pub begun : (s : List ℕ) (a b c : ℕ) → 3 ≤ length s
-    → begins (a ∷ b ∷ c ∷ []) s ≡ (eqb (get_or s 0 0) a && (eqb (get_or s 1 0) b && eqb (get_or s 2 0) c))
+pub begun-long : (s front : List ℕ) → begins front s ≡ true → length front ≤ length s
 unfolding begins same_bytes
-begun [] a b c h = absurd (omega arith)
-begun (x ∷ []) a b c h = absurd (omega arith)
-begun (x ∷ y ∷ []) a b c h = absurd (omega arith)
-begun (x ∷ y ∷ z ∷ s) a b c h = rw and-true
-
-pub not-begun : (s : List ℕ) (a b c : ℕ) → length s < 3 → false ≡ begins (a ∷ b ∷ c ∷ []) s
-unfolding begins same_bytes
-not-begun [] a b c h = refl
-not-begun (x ∷ []) a b c h = rw and-false
-not-begun (x ∷ y ∷ []) a b c h = simp and-false
-not-begun (x ∷ y ∷ z ∷ s) a b c h = absurd (omega arith)
-
-pub begun-long : (s : List ℕ) (a b c : ℕ) → begins (a ∷ b ∷ c ∷ []) s ≡ true → 3 ≤ length s
-begun-long s a b c e = elim (dec_lt (length s) 3) [
-  | yes h ↦ clash (begins (a ∷ b ∷ c ∷ []) s) e (sym (not-begun s a b c h))
-  | no h ↦ omega arith
-]
+begun-long s [] e = omega arith
+begun-long [] (b ∷ front) e = clash false e refl
+begun-long (a ∷ s) (b ∷ front) e = omega (arith, begun-long s front (and_right (eqb a b) (begins front s) e))
 
 -- ---- the last label: a line that gives one, and one that gives none
 
@@ -93,7 +82,7 @@ module _ (s found : List ℕ) (at e : ℕ) (w : Line s at e) {whole : List ℕ} 
   pub label-here : begins (0x4C ∷ 0x41 ∷ 0x3A ∷ []) (take (e - at) (drop at s)) ≡ true
       → (at + 3 ≤ e) × (whole ≡ last_label (take (e - (at + 3)) (drop (at + 3) s)) (lines_from (e + 1) s))
   label-here b =
-      let l = begun-long (take (e - at) (drop at s)) 0x4C 0x41 0x3A b in
+      let l = begun-long (take (e - at) (drop at s)) (0x4C ∷ 0x41 ∷ 0x3A ∷ []) b in
       let k : 3 ≤ e - at = omega (arith, length-take (e - at) (drop at s)) in
       let p : e - at ≡ 3 + (e - (at + 3)) = omega arith in
       let q : drop 3 (take (e - at) (drop at s)) ≡ take (e - (at + 3)) (drop (at + 3) s) =

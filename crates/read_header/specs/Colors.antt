@@ -1,10 +1,8 @@
 -- What a table of colours holds.
-use Rattle.std.specs.Prelude.{ℕ, ◌+◌, ◌/◌, ◌%◌, ◌≤◌, ◌<◌, ◌≡◌, List, get_or, set}
+use Rattle.std.specs.Prelude.{ℕ, ◌+◌, ◌/◌, ◌%◌, ◌≤◌, ◌<◌, ◌≡◌, List, get_or, set, Some, None, Option}
 use Rattle.rules.specs.Files.{color_number}
 use Rattle.rules.specs.Layout.{Stored, nothing, shade, charted}
 use Rattle.rules.specs.declared.Color.{Color}
-use Rattle.rules.specs.declared.Slot.{Slot}
-use Rattle.rules.specs.declared.Slot.TheVariants.{Empty, Thread}
 
 -- a cell of 32 bits: the chart entry, 255 for a colour of no chart, above the 24 bits of the colour
 pub record Cell (entry : ℕ) (c : Color) (n : ℕ) : Type 0 where
@@ -24,6 +22,6 @@ pub record Cells (f : ℕ → Stored) (cells : List ℕ) (r : ℕ) : Type 0 wher
   pub past : (k : ℕ) → r ≤ k → f k ≡ nothing
 
 -- a colour of no chart is put at cell n, if there is one, and r is the next cell
-abbrev pub Added : Slot → ℕ → List ℕ → ℕ → List ℕ → Type 0
-Added Empty n cells r cells' = (r ≡ n) × (cells' ≡ cells)
-Added (Thread c) n cells r cells' = (r ≡ n + 1) × ((v : ℕ) × (Held (shade c) v × (cells' ≡ set cells n v)))
+abbrev pub Added : Option Color → ℕ → List ℕ → ℕ → List ℕ → Type 0
+Added None n cells r cells' = (r ≡ n) × (cells' ≡ cells)
+Added (Some c) n cells r cells' = (r ≡ n + 1) × ((v : ℕ) × (Held (shade c) v × (cells' ≡ set cells n v)))

@@ -1,5 +1,4 @@
 pub mod Words
-pub mod Scans
 pub mod Lines
 pub mod Colors
 pub mod Spans

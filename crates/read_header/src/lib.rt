@@ -12,19 +12,11 @@ ghost use Rattle.rules.specs.Pec.{pec_entry, pec_stored};
 ghost use Rattle.rules.specs.Jef.{jef_count, jef_entry, jef_stored};
 ghost use Rattle.rules.specs.Charts.{pec_chart, jef_chart};
 ghost use Rattle.read_header.specs.Words.{word_of};
-ghost use Rattle.read_header.specs.Scans.{stops_at, until};
 ghost use Rattle.read_header.specs.Lines.{Line};
 ghost use Rattle.read_header.specs.Spans.{Holds};
 ghost use Rattle.read_header.specs.Colors.{Held, Cells, Added};
 
-use rules::{Color, DST_HEADER, Slot};
-
-// A number, or a file that ends before it.
-#[derive(Clone, Copy)]
-pub enum Word {
-    Number(i32),
-    Missing,
-}
+use rules::{Color, DST_HEADER};
 
 // A part of a slice, by its place.
 #[derive(Clone, Copy)]
@@ -33,116 +25,50 @@ pub struct Span {
     pub len: usize,
 }
 
-// A number of 32 bits in two's complement.
-fn signed32(n: u32) -> i32
-    ensures { result ≡ signed 31 n }
-{
-    if n < 0x80000000 {
-        return n as i32;
-    }
-    0 - (0xFFFFFFFF - n) as i32 - 1
-}
-
-// Four bytes as a number, low byte first.
-fn of_bytes(a: u8, b: u8, c: u8, d: u8) -> u32
-    ensures { result ≡ a + 256 * (b + 256 * (c + 256 * d)) }
-{
-    (a as u32) + 256 * ((b as u32) + 256 * ((c as u32) + 256 * (d as u32)))
-}
-
-pub fn i32le(file: &[u8], at: usize) -> Word
+// Four bytes as a signed number, low byte first.
+pub fn i32le(file: &[u8], at: usize) -> Option<i32>
     ensures { result ≡ word_of at file.now }
 {
     if file.len() < 4 {
-        return Word::Missing;
+        return None;
     }
     if file.len() - 4 < at {
-        return Word::Missing;
+        return None;
     }
-    let n = of_bytes(file[at], file[at + 1], file[at + 2], file[at + 3]);
-    Word::Number(signed32(n))
+    Some(i32::from_le_bytes([file[at], file[at + 1], file[at + 2], file[at + 3]]))
 }
 
+#[tactic(auto, unfolding(rules::specs::Text::blank))]
 fn is_blank(b: u8) -> bool
     ensures { result ≡ blank b }
 {
-    if b < 0x09 {
-        return false;
-    }
-    if b <= 0x0D {
-        return true;
-    }
-    b == 0x20
-}
-
-// What a scan stops at.
-#[derive(Clone, Copy)]
-enum Stop {
-    Text,
-    LineEnd,
-    Comma,
-    PastHashes,
-}
-
-fn stops(k: Stop, b: u8) -> bool
-    ensures { result ≡ stops_at k b }
-{
-    match k {
-        Stop::Text => !is_blank(b),
-        Stop::LineEnd => b == 0x0D || b == 0x0A,
-        Stop::Comma => b == 0x2C,
-        Stop::PastHashes => b != 0x23,
-    }
-}
-
-// The first place from `at` on at which a scan stops, or the end.
-fn scan(s: &[u8], at: usize, k: Stop) -> usize
-    requires { at ≤ length s.now }
-    ensures { result ≡ at + until (stops_at k) (drop at s.now) }
-{
-    let mut i = at;
-    while i < s.len() {
-        if stops(k, s[i]) {
-            return i;
-        }
-        i += 1;
-    }
-    i
+    matches!(b, 0x09..=0x0D | b' ')
 }
 
 // Where the blanks at the start end.
 fn start_of(s: &[u8]) -> usize
     ensures { (result ≤ length s.now) × (drop result s.now ≡ trim_start s.now) }
 {
-    scan(s, 0, Stop::Text)
+    s.iter().position(|b| !is_blank(*b)).unwrap_or(s.len())
 }
 
 // Where the blanks at the end begin.
 fn end_of(s: &[u8]) -> usize
     ensures { (result ≤ length s.now) × (take result s.now ≡ trim_end s.now) }
 {
-    let mut e = s.len();
-    while 0 < e {
-        if !is_blank(s[e - 1]) {
-            return e;
+    for i in (0..s.len()).rev() {
+        if !is_blank(s[i]) {
+            return i + 1;
         }
-        e -= 1;
     }
-    e
+    0
 }
 
 // The place k bytes after another, or the slice's end.
 fn ahead(s: &[u8], from: usize, k: usize) -> usize
     ensures { result ≡ min (from + k) (length s.now) }
 {
-    let n = s.len();
-    if n <= from {
-        return n;
-    }
-    if n - from <= k {
-        return n;
-    }
-    from + k
+    from.saturating_add(k).min(s.len())
 }
 
 // At most len bytes from a place on, cut where the slice ends.
@@ -193,28 +119,16 @@ pub fn pec_label(file: &[u8], start: usize) -> &[u8]
     part(file, p.start, p.len)
 }
 
-// Whether a text begins with three given bytes.
-fn is_begun(s: &[u8], a: u8, b: u8, c: u8) -> bool
-    ensures { result ≡ begins (a ∷ b ∷ c ∷ []) s.now }
-{
-    if s.len() < 3 {
-        return false;
-    }
-    if s[0] != a {
-        return false;
-    }
-    if s[1] != b {
-        return false;
-    }
-    s[2] == c
-}
-
 // Where the line that begins at `at` ends.
 fn line_end(s: &[u8], at: usize) -> usize
     requires { at ≤ length s.now }
     ensures { Line s.now at result }
 {
-    scan(s, at, Stop::LineEnd)
+    let line = &s[at..];
+    at + line
+        .iter()
+        .position(|b| *b == b'\r' || *b == b'\n')
+        .unwrap_or(line.len())
 }
 
 // Where the rest of the last line that begins `LA:` stands.
@@ -225,9 +139,10 @@ fn last_label_at(s: &[u8]) -> Span
     let mut from = 0;
     let mut to = 0;
     let mut at = 0;
+    // Kept as while: each turn goes on by its line's own length.
     while at <= s.len() {
         let e = line_end(s, at);
-        if is_begun(&s[at..e], 0x4C, 0x41, 0x3A) {
+        if s[at..e].starts_with(b"LA:") {
             from = at + 3;
             to = e;
         }
@@ -255,29 +170,17 @@ pub fn dst_label(file: &[u8]) -> &[u8]
     part(file, p.start, p.len)
 }
 
-fn is_from_to(b: u8, lo: u8, hi: u8) -> bool
-    ensures { result ≡ (leb lo b && leb b hi) }
-{
-    if b < lo {
-        return false;
-    }
-    b <= hi
-}
-
 // The value of a hexadecimal digit; 16 of any other byte.
+#[tactic(auto, unfolding(rules::specs::Dst::hex_digit))]
 fn hex_digit(b: u8) -> u32
     ensures { (result ≡ hex_digit b) × (result ≤ 16) }
 {
-    if is_from_to(b, 0x30, 0x39) {
-        return (b - 0x30) as u32;
+    match b {
+        b'0'..=b'9' => (b - b'0') as u32,
+        b'A'..=b'F' => (b - b'A') as u32 + 10,
+        b'a'..=b'f' => (b - b'a') as u32 + 10,
+        _ => 16,
     }
-    if is_from_to(b, 0x41, 0x46) {
-        return (b - 0x37) as u32;
-    }
-    if is_from_to(b, 0x61, 0x66) {
-        return (b - 0x57) as u32;
-    }
-    16
 }
 
 // A hexadecimal pair, or `+` and one digit; 256 where it is neither.
@@ -298,27 +201,27 @@ pub fn hex_pair(a: u8, b: u8) -> u32
     16 * high + low
 }
 
-fn hex_color(r: u32, g: u32, b: u32) -> Slot
+fn hex_color(r: u32, g: u32, b: u32) -> Option<Color>
     ensures { result ≡ hex_color r g b }
 {
     if 256 <= r {
-        return Slot::Empty;
+        return None;
     }
     if 256 <= g {
-        return Slot::Empty;
+        return None;
     }
     if 256 <= b {
-        return Slot::Empty;
+        return None;
     }
-    Slot::Thread(Color(r as u8, g as u8, b as u8))
+    Some(Color(r as u8, g as u8, b as u8))
 }
 
 // Exactly six bytes as a colour.
-pub fn six_digits(s: &[u8]) -> Slot
+pub fn six_digits(s: &[u8]) -> Option<Color>
     ensures { result ≡ six_digits s.now }
 {
     if s.len() != 6 {
-        return Slot::Empty;
+        return None;
     }
     let r = hex_pair(s[0], s[1]);
     let g = hex_pair(s[2], s[3]);
@@ -330,18 +233,18 @@ pub fn six_digits(s: &[u8]) -> Slot
 fn comma_of(s: &[u8]) -> usize
     ensures { (result ≤ length s.now) × (take result s.now ≡ before_comma s.now) }
 {
-    scan(s, 0, Stop::Comma)
+    s.iter().position(|b| *b == b',').unwrap_or(s.len())
 }
 
 // Where the `#` at the start end.
 fn hashes_of(s: &[u8]) -> usize
     ensures { (result ≤ length s.now) × (drop result s.now ≡ drop_hashes s.now) }
 {
-    scan(s, 0, Stop::PastHashes)
+    s.iter().position(|b| *b != b'#').unwrap_or(s.len())
 }
 
 // The colour of a text that may go on after a comma.
-fn text_color(s: &[u8]) -> Slot
+fn text_color(s: &[u8]) -> Option<Color>
     ensures { result ≡ six_digits (drop_hashes (trimmed (before_comma s.now))) }
 {
     let e = comma_of(s);
@@ -351,13 +254,13 @@ fn text_color(s: &[u8]) -> Slot
 }
 
 // The colour of a `TC:` line.
-pub fn line_color(line: &[u8]) -> Slot
+pub fn line_color(line: &[u8]) -> Option<Color>
     ensures { result ≡ line_color line.now }
 {
-    if is_begun(line, 0x54, 0x43, 0x3A) {
+    if line.starts_with(b"TC:") {
         return text_color(part(line, 3, line.len()));
     }
-    Slot::Empty
+    None
 }
 
 // A colour as one number, of 24 bits.
@@ -375,11 +278,11 @@ fn cell_of(entry: u8, c: Color) -> u32
 }
 
 // Puts a colour of no chart at cell n, if there is one, and reports the next cell.
-fn put_color(s: Slot, n: usize, colors: &mut [u32]) -> usize
+fn put_color(s: Option<Color>, n: usize, colors: &mut [u32]) -> usize
     requires { n < length colors.old }
     ensures { Added s n colors.old result colors.new }
 {
-    let Slot::Thread(c) = s else {
+    let Some(c) = s else {
         return n;
     };
     colors[n] = cell_of(255, c);
@@ -393,6 +296,7 @@ fn line_colors(s: &[u8], colors: &mut [u32]) -> usize
 {
     let mut n = 0;
     let mut at = 0;
+    // Kept as while: each turn goes on by its line's own length.
     while at <= s.len() {
         let e = line_end(s, at);
         let c = line_color(&s[at..e]);
@@ -439,23 +343,10 @@ pub fn pec_colors(file: &[u8], start: usize, count: u8, colors: &mut [u32]) -> u
     ensures { Cells (pec_stored start file.now) colors.new result }
 {
     let n = (count as usize) + 1;
-    let mut k = 0;
-    while k < n {
+    for k in 0..n {
         colors[k] = pec_cell(file, start, k);
-        k += 1;
     }
     n
-}
-
-// How far a number is from 0.
-fn magnitude(z: i32) -> usize
-    ensures { result ≡ nat_abs z }
-{
-    let w = z as i64;
-    if w < 0 {
-        return (0 - w) as usize;
-    }
-    w as usize
 }
 
 // How many colours a JEF file says that it has, at most 256.
@@ -463,17 +354,13 @@ fn jef_count(file: &[u8]) -> usize
     ensures { result ≡ jef_count file.now }
 {
     let w = i32le(file, 24);
-    let Word::Number(z) = w else {
+    let Some(z) = w else {
         return 0;
     };
     if z < 0 {
         return 0;
     }
-    let n = magnitude(z);
-    if n <= 256 {
-        return n;
-    }
-    256
+    (z.unsigned_abs() as usize).min(256)
 }
 
 // The cell of block k of a JEF file, whose entry is wholly there.
@@ -482,10 +369,10 @@ fn jef_cell(file: &[u8], k: usize) -> u32
     ensures { Held (from_chart jef_chart (jef_entry file.now k)) result }
 {
     let w = i32le(file, 116 + 4 * k);
-    let Word::Number(z) = w else {
+    let Some(z) = w else {
         return 0;
     };
-    let entry = magnitude(z) % 79;
+    let entry = z.unsigned_abs() as usize % 79;
     cell_of(entry as u8, jef_data::jef_thread(entry))
 }
 
@@ -495,13 +382,11 @@ pub fn jef_colors(file: &[u8], colors: &mut [u32]) -> usize
     ensures { Cells (jef_stored file.now) colors.new result }
 {
     let n = jef_count(file);
-    let mut k = 0;
-    while k < n {
+    for k in 0..n {
         if file.len() < 120 + 4 * k {
             return k;
         }
         colors[k] = jef_cell(file, k);
-        k += 1;
     }
-    k
+    n
 }

@@ -1,24 +1,19 @@
 -- What is read of the field at a place of a job.
-use Rattle.std.specs.Prelude.{ℕ, ◌+◌, ◌-◌, ◌≤◌, ◌≡◌, true, ◌||◌, not, List, ltb, length, take, drop}
+use Rattle.std.specs.Prelude.{ℕ, ◌+◌, ◌-◌, ◌≤◌, ◌≡◌, ◌||◌, not, List, ltb, length, take, drop, Some, None, Ok, Err, Option, Result}
 use Rattle.rules.specs.Vocabulary.{pick, any, from_little}
 use Rattle.rules.specs.Jobs.{Fields, ended, field, bad_tag, follows, length_allowed, unknown_kind, rows_in, fields_from}
-use Rattle.rules.specs.declared.Verdict.TheVariants.{Refused}
 use Rattle.read_job_fields.specs.declared.Field.{Field}
-use Rattle.read_job_fields.specs.declared.Field.TheVariants as read
-use Rattle.read_job_fields.specs.declared.Length.{Length}
-use Rattle.read_job_fields.specs.declared.Length.TheVariants as length-of
-use Rattle.read_job_fields.specs.declared.Tag.{Tag}
-use Rattle.read_job_fields.specs.declared.Tag.TheVariants as tag_of
+use Rattle.rules.specs.declared.Refusal.{Refusal}
 
-abbrev pub tag_by : ℕ → ℕ → Tag
-tag_by before tag = pick (follows before tag) (tag_of.Is tag) tag_of.Bad
+abbrev pub tag_by : ℕ → ℕ → Option ℕ
+tag_by before tag = pick (follows before tag) (Some tag) None
 
 -- s is what is left of the job from the length on
-abbrev pub length_by : ℕ → List ℕ → Length
+abbrev pub length_by : ℕ → List ℕ → Option ℕ
 length_by tag s =
-    pick (ltb (length s) 2) length-of.Bad
-    (pick (ltb (length (drop 2 s)) (from_little (take 2 s)) || not (length_allowed tag (from_little (take 2 s)))) length-of.Bad
-    (length-of.Is (from_little (take 2 s))))
+    pick (ltb (length s) 2) None
+    (pick (ltb (length (drop 2 s)) (from_little (take 2 s)) || not (length_allowed tag (from_little (take 2 s)))) None
+    (Some (from_little (take 2 s))))
 
 -- the bytes from `start` to before `end`
 abbrev pub content_of : List ℕ → ℕ → ℕ → List ℕ
@@ -35,6 +30,6 @@ pub record Lies (s : List ℕ) (before at tag start end : ℕ) : Type 0 where
   pub inside : end ≤ length s
   pub tells : fields_from before (drop at s) ≡ field_and tag (content_of s start end) (fields_from tag (drop end s))
 
-abbrev pub FieldRead : List ℕ → ℕ → ℕ → Field → Type 0
-FieldRead s before at (read.At tag start end) = Lies s before at tag start end
-FieldRead s before at (read.Not r) = fields_from before (drop at s) ≡ ended (Refused r)
+abbrev pub FieldRead : List ℕ → ℕ → ℕ → Result Field Refusal → Type 0
+FieldRead s before at (Ok f) = Lies s before at f.tag f.start f.end
+FieldRead s before at (Err r) = fields_from before (drop at s) ≡ ended (Err r)

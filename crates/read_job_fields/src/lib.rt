@@ -9,25 +9,12 @@ ghost use Rattle.read_job_fields.specs.Fields.{tag_by, length_by, FieldRead};
 use read_records::bytes::signed16;
 use rules::{LONGEST_NAME, Refusal};
 
-// A tag that may stand where it does, or not.
+// A field, whose content is from `start` to before `end`.
 #[derive(Clone, Copy)]
-pub enum Tag {
-    Is(u8),
-    Bad,
-}
-
-// A length that its tag may have, of a content that is there, or not.
-#[derive(Clone, Copy)]
-pub enum Length {
-    Is(usize),
-    Bad,
-}
-
-// A field, whose content is from `start` to before `end`, or why the job is refused at its tag or length.
-#[derive(Clone, Copy)]
-pub enum Field {
-    At { tag: u8, start: usize, end: usize },
-    Not(Refusal),
+pub struct Field {
+    pub tag: u8,
+    pub start: usize,
+    pub end: usize,
 }
 
 // A number of two bytes, the low byte first.
@@ -47,77 +34,65 @@ pub fn i16le(job: &[u8], at: usize) -> i32
 }
 
 // Whether a tag may follow the one before, 0 at the front.
+#[tactic(auto, unfolding(rules::specs::Jobs::follows))]
 fn is_next(before: u8, tag: u8) -> bool
     ensures { result ≡ follows before tag }
 {
     if before == 0 {
         return tag == 1;
     }
-    if tag < 2 {
-        return false;
-    }
-    if 3 < tag {
-        return false;
-    }
-    before <= tag
+    2 <= tag && tag <= 3 && before <= tag
 }
 
+#[tactic(auto, unfolding(rules::specs::Jobs::length_allowed))]
 fn is_length(tag: u8, len: usize) -> bool
     ensures { result ≡ length_allowed tag len }
 {
-    if tag == 1 {
-        return len <= LONGEST_NAME;
+    match tag {
+        1 => len <= LONGEST_NAME,
+        2 => len == 3,
+        _ => len % 5 == 0,
     }
-    if tag == 2 {
-        return len == 3;
-    }
-    len % 5 == 0
 }
 
-fn tag_at(job: &[u8], at: usize, before: u8) -> Tag
+fn tag_at(job: &[u8], at: usize, before: u8) -> Option<u8>
     requires { at < length job.now }
     ensures { result ≡ tag_by before (get_or job.now at 0) }
 {
     let tag = job[at];
     if is_next(before, tag) {
-        return Tag::Is(tag);
+        Some(tag)
+    } else {
+        None
     }
-    Tag::Bad
 }
 
 // The length that stands at `at`.
-fn length_at(job: &[u8], at: usize, tag: u8) -> Length
+fn length_at(job: &[u8], at: usize, tag: u8) -> Option<usize>
     requires { at ≤ length job.now }
     ensures { result ≡ length_by tag (drop at job.now) }
 {
     if job.len() - at < 2 {
-        return Length::Bad;
+        return None;
     }
     let len = le16(job, at);
-    if job.len() - at - 2 < len {
-        return Length::Bad;
+    if job.len() - at - 2 < len || !is_length(tag, len) {
+        return None;
     }
-    if is_length(tag, len) {
-        return Length::Is(len);
-    }
-    Length::Bad
+    Some(len)
 }
 
-// The field at a place, behind one with the tag `before`, 0 at the front.
-pub fn field_at(job: &[u8], at: usize, before: u8) -> Field
+// The field at a place, behind one with the tag `before`, 0 at the front, or why the job is refused there.
+pub fn field_at(job: &[u8], at: usize, before: u8) -> Result<Field, Refusal>
     requires { at < length job.now }
     ensures { FieldRead job.now before at result }
 {
-    let Tag::Is(tag) = tag_at(job, at, before) else {
-        return Field::Not(Refusal::BadTag);
-    };
-    let Length::Is(len) = length_at(job, at + 1, tag) else {
-        return Field::Not(Refusal::BadLength);
-    };
+    let tag = tag_at(job, at, before).ok_or(Refusal::BadTag)?;
+    let len = length_at(job, at + 1, tag).ok_or(Refusal::BadLength)?;
     let start = at + 3;
-    Field::At {
+    Ok(Field {
         tag,
         start,
         end: start + len,
-    }
+    })
 }

@@ -21,10 +21,6 @@ byte-is : (b : Bool) → bool_byte b ≡ pick b 1 0
 byte-is true = refl
 byte-is false = refl
 
-pub byte_small : (b : Bool) → bool_byte b ≤ 1
-byte_small true = omega arith
-byte_small false = omega arith
-
 pick_small : (b : Bool) → pick b 1 0 ≤ 1
 pick_small true = omega arith
 pick_small false = omega arith
@@ -36,9 +32,6 @@ pub record Gathering (bytes : List ℕ) (t₀ t : Tally) (at : ℕ) : Type 0 whe
   pub spare : Spare t (length bytes - at)
 
 module _ {bytes : List ℕ} {t₀ : Tally} where
-  pub gathering-start : Spare t₀ (length bytes) → Gathering bytes t₀ t₀ 0
-  gathering-start s = record { told = refl; inside = omega arith; spare = record { few = omega (arith, s.few); fewer = s.fewer } }
-
   module _ {t : Tally} {at : ℕ} (g : Gathering bytes t₀ t at) where
     pub gathering-more : {r : Tally} → 5 ≤ length bytes - at → r ≡ counted t (row_at bytes at) → Gathering bytes t₀ r (at + 5)
     unfolding tallied counted

@@ -1,12 +1,12 @@
 -- What commands make of a tally, and what a tally tells of refusals 6 to 9.
-use Rattle.std.specs.Prelude.{ℕ, ◌+◌, ◌/◌, ◌%◌, ◌≤◌, Bool, false, ◌||◌, not, List, [], ◌∷◌, ltb, eqb, pos}
+use Rattle.std.specs.Prelude.{ℕ, ◌+◌, ◌/◌, ◌%◌, ◌≤◌, Bool, false, ◌||◌, not, List, [], ◌∷◌, ltb, eqb, pos, Result, ⊤}
 use Rattle.rules.specs.Vocabulary.{pick}
 use Rattle.rules.specs.Limits.{most_commands, most_changes, most_threads}
 use Rattle.rules.specs.Refusals.{outside, changes, moves, verdict}
 use Rattle.rules.specs.declared.Cmd.{Cmd}
 use Rattle.rules.specs.declared.Refusal.TheVariants.{BadList, PlaceOutside, TooMany, Moved}
-use Rattle.rules.specs.declared.Verdict.{Verdict}
 use Rattle.read_job_tally.specs.declared.Tally.{Tally}
+use Rattle.rules.specs.declared.Refusal.{Refusal}
 
 -- no command yet; the place before the first is (0, 0)
 abbrev pub no_tally : Tally
@@ -52,7 +52,7 @@ bad_tally t = eqb t.commands 0 || (ltb most_commands t.commands || (t.unknown ||
 unfoldable pub many_tally : Tally → ℕ → Bool
 many_tally t n = ltb most_changes t.changes || (ltb most_threads (n / 3) || not (eqb (n % 3) 0))
 
-unfoldable pub tally_verdict : Tally → ℕ → Verdict
+unfoldable pub tally_verdict : Tally → ℕ → Result ⊤ Refusal
 tally_verdict t n = verdict
     ((BadList, bad_tally t)
     ∷ (PlaceOutside, t.outside)

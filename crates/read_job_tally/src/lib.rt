@@ -7,11 +7,12 @@ ghost use Rattle.laws.specs.Jobs.{row_at};
 ghost use Rattle.read_job_tally.specs.Tallies.{no_tally, counted, tallied, bad_tally, many_tally, tally_verdict, Spare};
 
 use read_job_fields::i16le;
-use rules::{MOST_CHANGES, MOST_COMMANDS, MOST_THREADS, Refusal, Verdict};
+use rules::{MOST_CHANGES, MOST_COMMANDS, MOST_THREADS, Refusal};
 use write_refusals::{is_change, is_placed, moves};
 
 // Of the commands so far: how many, how many colour changes, the last place, whether the last is an end and whether an earlier one is,
 // whether a kind is unknown, a place outside the range, a trim, colour change or end moved.
+// Kept as flags: each is a condition of refusals 6 to 9, gathered with no early exit; none says whether a value is there.
 #[derive(Clone, Copy)]
 pub struct Tally {
     pub commands: u32,
@@ -77,15 +78,14 @@ pub fn with_rows(t: Tally, bytes: &[u8]) -> Tally
     ensures { result ≡ tallied t (rows_of bytes.now) }
 {
     let mut now = t;
-    let mut at = 0;
-    while 5 <= bytes.len() - at {
-        now = with_row(now, bytes, at);
-        at += 5;
+    for i in 0..bytes.len() / 5 {
+        now = with_row(now, bytes, 5 * i);
     }
     now
 }
 
 // 6: no command or too many, or the end missing, early or repeated. Unknown kinds were refused before.
+#[tactic(auto, unfolding(crate::specs::Tallies::bad_tally))]
 fn is_bad(t: Tally) -> bool
     requires { t.unknown ≡ false }
     ensures { result ≡ bad_tally t }
@@ -101,6 +101,7 @@ fn is_bad(t: Tally) -> bool
 }
 
 // 8: too many colour changes or threads, or thread bytes not a multiple of three.
+#[tactic(auto, unfolding(crate::specs::Tallies::many_tally))]
 fn is_too_many(t: Tally, thread_bytes: usize) -> bool
     ensures { result ≡ many_tally t thread_bytes }
 {
@@ -114,21 +115,22 @@ fn is_too_many(t: Tally, thread_bytes: usize) -> bool
 }
 
 // The first of refusals 6 to 9 that holds of the commands and so many bytes of threads.
-pub fn check_tally(t: Tally, thread_bytes: usize) -> Verdict
+#[tactic(auto, unfolding(crate::specs::Tallies::tally_verdict, rules::specs::Refusals::verdict))]
+pub fn check_tally(t: Tally, thread_bytes: usize) -> Result<(), Refusal>
     requires { t.unknown ≡ false }
     ensures { result ≡ tally_verdict t thread_bytes }
 {
     if is_bad(t) {
-        return Verdict::Refused(Refusal::BadList);
+        return Err(Refusal::BadList);
     }
     if t.outside {
-        return Verdict::Refused(Refusal::PlaceOutside);
+        return Err(Refusal::PlaceOutside);
     }
     if is_too_many(t, thread_bytes) {
-        return Verdict::Refused(Refusal::TooMany);
+        return Err(Refusal::TooMany);
     }
     if t.moved {
-        return Verdict::Refused(Refusal::Moved);
+        return Err(Refusal::Moved);
     }
-    Verdict::Accepted
+    Ok(())
 }

@@ -1,4 +1,5 @@
 -- The two passes over the records of any format: what holds where they begin, in each turn and at the end. Assumes nothing.
+use Rattle.std.specs.Prelude.{Ok}
 use Prim.Native.Nat.{ℕ, ◌+◌, ◌*◌, ◌≤◌, ◌<◌}
 use mathlib.Core.Path.{◌≡◌, refl, sym, ap, ◌∙◌}
 use mathlib.Core.List.{List, [], ◌++◌, append-nil}
@@ -16,7 +17,6 @@ use Rattle.rules.specs.declared.Counts.{Counts}
 use Rattle.read_records.specs.declared.Row.{Row}
 use Rattle.rules.specs.declared.Record.{Record}
 use Rattle.rules.specs.declared.Record.TheVariants.{StitchBy, JumpBy, ChangeBy, Finish}
-use Rattle.rules.specs.declared.Verdict.TheVariants.{Accepted}
 use Rattle.laws.specs.Buffers.{Writing, put-by, writing_start, writing-room, writing_more, writing-done, put_front}
 use Rattle.laws.specs.Ints.{abs-add}
 use Rattle.read_builder.proofs.Places.{mag-abs}
@@ -300,8 +300,8 @@ module _ (f : Row) (bytes : List ℕ) where
 
     pub settled : {k : Counts} {R' B' : List ℕ} → Counted (finished b) k
         × ((R' ≡ sets R b.runs (run_of b.run)) × (B' ≡ sets B (block_cells_of * b.blocks) (block_of c b.block b.begun)))
-        → Sized (first_record_of f) bytes (sizes_of k) × ((P ≡ filled Accepted (places_in (first_record_of f) bytes) P₀)
-        × ((R' ≡ filled Accepted (runs_in (first_record_of f) bytes) R₀) × (B' ≡ filled Accepted (blocks_in c (first_record_of f) bytes) B₀)))
+        → Sized (first_record_of f) bytes (sizes_of k) × ((P ≡ filled (Ok tt) (places_in (first_record_of f) bytes) P₀)
+        × ((R' ≡ filled (Ok tt) (runs_in (first_record_of f) bytes) R₀) × (B' ≡ filled (Ok tt) (blocks_in c (first_record_of f) bytes) B₀)))
     unfolding filled places
     settled q =
         let r = writing_more {vs = run_of b.run} all.runs last-run (put-by refl q.1.0) in

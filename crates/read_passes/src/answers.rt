@@ -120,6 +120,7 @@ pub fn change(
 }
 
 // What a record of any kind adds to the answers, and the builder after it.
+// Kept as a match on the record: four arms, each one call.
 pub fn write(
     b: Builder,
     r: Record,

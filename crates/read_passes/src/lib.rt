@@ -18,6 +18,13 @@ use read_builder::{Builder, counts, finish, place_after};
 use read_records::{Row, record_at};
 use rules::{BLOCK_CELLS, Counts};
 
+// The builder after what has been read, and the byte that is read next.
+#[derive(Clone, Copy)]
+pub struct Turn {
+    pub b: Builder,
+    pub at: usize,
+}
+
 // How much the answers hold: points, runs and blocks listed.
 #[derive(Clone, Copy)]
 pub struct Sizes {
@@ -52,6 +59,7 @@ pub fn fill_rest(
 {
     let mut b = first;
     let mut at = from;
+    // Kept as while: each turn goes on by its record's own length.
     while at < bytes.len() {
         let r = record_at(f, bytes, at);
         b = write(b, r, colors, places, runs, blocks);

@@ -1,4 +1,5 @@
 // Two's complement without a test of the sign: half the range is added, and taken away after the remainder.
+// By hand, since the library's `cast_signed` tests it, and these run once for each step.
 // A port of src/formats/read.rs of zigzag, changed.
 ghost use Rattle.std.specs.Prelude.{◌≡◌, ◌<◌, neg_ℤ};
 ghost use Rattle.rules.specs.Vocabulary.{signed};

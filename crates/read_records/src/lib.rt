@@ -26,6 +26,7 @@ pub enum Row {
 }
 
 // One record, from byte `at` of the stitches; `Finish` from their end on.
+// Kept as a match: four arms of closed kinds, and one equation.
 pub fn record_at(f: Row, file: &[u8], at: usize) -> Record
     ensures { result ≡ first_record_of f (drop at file.now) }
 {

@@ -73,13 +73,11 @@ pub fn dst_steps(y: bool) -> [i32; 48]
     ensures { DstSteps y result }
 {
     let mut steps = [0i32; 48];
-    let mut n: usize = 0;
-    while n < 16 {
+    for n in 0..16 {
         let bits = axis_bits(y, n as u8);
         steps[n] = dst_step(y, bits, 0, 0);
         steps[16 + n] = dst_step(y, 0, bits, 0);
         steps[32 + n] = dst_step(y, 0, 0, bits);
-        n += 1;
     }
     steps
 }

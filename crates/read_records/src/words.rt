@@ -7,7 +7,7 @@ ghost use Rattle.read_records.specs.Words.{four_at, eight_at, past_step, axis_st
 
 use crate::bytes::{signed7, signed12};
 
-// Four bytes as one number, the first lowest.
+// Four bytes as one number, the first lowest. By hand, as is `eight`: the loops over records read so, and keep their machine code.
 pub fn four(file: &[u8], at: usize) -> u32
     requires { at + 4 ≤ length file.now }
     ensures { result ≡ four_at file.now at }
@@ -75,11 +75,9 @@ pub fn pec_steps() -> [i32; 512]
     ensures { PecSteps result }
 {
     let mut steps = [0i32; 512];
-    let mut n: usize = 0;
-    while n < 256 {
+    for n in 0..256 {
         steps[n] = first_part(n as u8);
         steps[256 + n] = plain(n as u8);
-        n += 1;
     }
     steps
 }

@@ -1,4 +1,5 @@
 -- The checks of a file, in the order that the code has. Assumes nothing.
+use Rattle.std.specs.Prelude.{Some, None, Ok, Err}
 use Prim.Native.Nat.{ℕ, ◌+◌, ◌≤◌, ◌<◌}
 use mathlib.Core.Path.{◌≡◌, sym, ◌∙◌}
 use mathlib.Core.Bool.{true, false}
@@ -20,35 +21,32 @@ use Rattle.rules.specs.declared.Format.{Format}
 use Rattle.rules.specs.declared.Format.TheVariants.{Pes, Pec, Dst, Exp, Jef, Vp3}
 use Rattle.rules.specs.declared.Refusal.{Refusal}
 use Rattle.rules.specs.declared.Refusal.TheVariants.{FileTooLong, BadOpening, FileTooShort, StartBelowZero}
-use Rattle.rules.specs.declared.Verdict.TheVariants.{Accepted, Refused}
 use Rattle.laws.specs.Tests.{by-test, false-true}
 use Rattle.read_vp3.proofs.Tallied.{counts-are}
 use Rattle.read_vp3.specs.Walks.{Told}
 use Rattle.read_refusals.proofs.Signature.{too_few}
 use Rattle.read_refusals.specs.Openings.{byte_of, started, front_of, pec_front, pes_front, dst_front, jef_front, vp3_front}
-use Rattle.read_refusals.specs.declared.Byte.TheVariants.{Value, Missing}
 use Rattle.read_refusals.specs.declared.Head.TheVariants as head
-use Rattle.read_refusals.specs.declared.Opening.TheVariants.{At, Not}
 
-never : {b : ℕ} → Value b ≡ Missing → ⊥
+never : {b : ℕ} → Some b ≡ None → ⊥
 never e = let z : ◌≡◌ {A = ℕ} 0 1 = cc in omega arith
 
 -- a byte that is there, and one that is missing
 module _ (start k : ℕ) (s : List ℕ) where
-  pub byte-there : {b : ℕ} → byte_of start k s ≡ Value b → (start + k < length s) × (b ≡ get_or s (start + k) 0)
+  pub byte-there : {b : ℕ} → byte_of start k s ≡ Some b → (start + k < length s) × (b ≡ get_or s (start + k) 0)
   byte-there e = by-test (ltb (start + k) (length s)) (λ t. let v = rw t at e in (ltb-true _ _ t, cc)) (λ t. absurd (never (sym (rw t at e))))
 
-  pub byte-missing : byte_of start k s ≡ Missing → length s ≤ start + k
+  pub byte-missing : byte_of start k s ≡ None → length s ≤ start + k
   byte-missing e = by-test (ltb (start + k) (length s)) (λ t. absurd (never (rw t at e))) (ltb-false _ _)
 
 -- ---- the checks that a format has
 
 module _ (start : ℕ) (s : List ℕ) where
-  pub counted : {b : ℕ} → (start + 48 < length s) × (b ≡ get_or s (start + 48) 0) → At (head.Pec start b) ≡ pec_front start s
+  pub counted : {b : ℕ} → (start + 48 < length s) × (b ≡ get_or s (start + 48) 0) → Ok (head.Pec start b) ≡ pec_front start s
   unfolding pec_front
   counted h = rw (h.1, lt-ltb (start + 48) (length s) h.0)
 
-  pub uncounted : length s ≤ start + 48 → Not FileTooShort ≡ pec_front start s
+  pub uncounted : length s ≤ start + 48 → Err FileTooShort ≡ pec_front start s
   unfolding pec_front
   uncounted h = rw (le-ltb (start + 48) (length s) h)
 
@@ -60,17 +58,17 @@ module _ (start : ℕ) (s : List ℕ) where
       (λ e. rw (e, lt-ltb (start + 48) (length s) (leb-false _ _ e)))
 
 module _ (s : List ℕ) where
-  pub pes-unlike : begins (0x23 ∷ 0x50 ∷ 0x45 ∷ 0x53 ∷ []) s ≡ false → Not BadOpening ≡ pes_front s
+  pub pes-unlike : begins (0x23 ∷ 0x50 ∷ 0x45 ∷ 0x53 ∷ []) s ≡ false → Err BadOpening ≡ pes_front s
   unfolding pes_front verdict
   pes-unlike b = rw b
 
   module _ (b : begins (0x23 ∷ 0x50 ∷ 0x45 ∷ 0x53 ∷ []) s ≡ true) where
-    pub pes-short : length s < 12 → Not FileTooShort ≡ pes_front s
+    pub pes-short : length s < 12 → Err FileTooShort ≡ pes_front s
     unfolding pes_front verdict
     pes-short h = rw (b, lt-ltb (length s) 12 h)
 
     module _ {z : ℤ} (t : (12 ≤ length s) × (word_at 8 s ≡ z)) where
-      pub pes-below : lt_z z (pos 0) ≡ true → Not StartBelowZero ≡ pes_front s
+      pub pes-below : lt_z z (pos 0) ≡ true → Err StartBelowZero ≡ pes_front s
       unfolding pes_front verdict
       pes-below e = rw (b, le-ltb (length s) 12 t.0, t.1, e)
 
@@ -78,32 +76,32 @@ module _ (s : List ℕ) where
       unfolding pes_front verdict no_count part_at
       pes_start_lem e = rw (b, le-ltb (length s) 12 t.0, t.1, e) (count-byte (nat_abs z) s)
 
-  pub dst-short : length s < 512 → Not FileTooShort ≡ dst_front s
+  pub dst-short : length s < 512 → Err FileTooShort ≡ dst_front s
   unfolding dst_front verdict
   dst-short h = rw (lt-ltb (length s) 512 h)
 
-  pub dst-whole : 512 ≤ length s → At head.Dst ≡ dst_front s
+  pub dst-whole : 512 ≤ length s → Ok head.Dst ≡ dst_front s
   unfolding dst_front verdict
   dst-whole h = rw (le-ltb (length s) 512 h)
 
-  pub jef-short : length s < 4 → Not FileTooShort ≡ jef_front s
+  pub jef-short : length s < 4 → Err FileTooShort ≡ jef_front s
   unfolding jef_front verdict
   jef-short h = rw (lt-ltb (length s) 4 h)
 
-  pub jef-whole : {z : ℤ} → (4 ≤ length s) × (word_at 0 s ≡ z) → At (head.Jef z) ≡ jef_front s
+  pub jef-whole : {z : ℤ} → (4 ≤ length s) × (word_at 0 s ≡ z) → Ok (head.Jef z) ≡ jef_front s
   unfolding jef_front verdict
   jef-whole t = rw (le-ltb (length s) 4 t.0, t.1)
 
-  pub vp3-unlike : begins vp3_opening s ≡ false → Not BadOpening ≡ vp3_front s
+  pub vp3-unlike : begins vp3_opening s ≡ false → Err BadOpening ≡ vp3_front s
   unfolding vp3_front verdict
   vp3-unlike b = rw b
 
   module _ (b : begins vp3_opening s ≡ true) where
-    pub vp3-faulty : {r : Refusal} → fault_in (vp3_blocks s) ≡ Refused r → Not r ≡ vp3_front s
+    pub vp3-faulty : {r : Refusal} → fault_in (vp3_blocks s) ≡ Err r → Err r ≡ vp3_front s
     unfolding vp3_front verdict row_of
     vp3-faulty e = rw (b, e)
 
-    pub vp3-sound : {k : Counts} → fault_in (vp3_blocks s) ≡ Accepted → Told (events_in (vp3_blocks s)) k → At (head.Vp3 k) ≡ vp3_front s
+    pub vp3-sound : {k : Counts} → fault_in (vp3_blocks s) ≡ Ok tt → Told (events_in (vp3_blocks s)) k → Ok (head.Vp3 k) ≡ vp3_front s
     unfolding vp3_front verdict row_of places_of runs_of blocks_of cuts_of events_of
     vp3-sound e t = rw (b, e, counts-are (events_in (vp3_blocks s)) (colour_of Vp3 s) t)
 
@@ -114,7 +112,7 @@ module _ (s : List ℕ) where
 
   -- ---- every format: first that the file is not too long
 
-  pub too_long : (f : Format) → 2097152 < length s → Not FileTooLong ≡ front_of f s
+  pub too_long : (f : Format) → 2097152 < length s → Err FileTooLong ≡ front_of f s
   unfolding front_of file_refusals verdict
   too_long f h = rw (lt-ltb 2097152 (length s) h)
 
@@ -131,7 +129,7 @@ module _ (s : List ℕ) where
     unfolding front_of dst_front file_refusals verdict
     of-dst = rw (le-ltb 2097152 (length s) h)
 
-    pub of-exp : At head.Exp ≡ front_of Exp s
+    pub of-exp : Ok head.Exp ≡ front_of Exp s
     unfolding front_of file_refusals verdict
     of-exp = rw (le-ltb 2097152 (length s) h)
 

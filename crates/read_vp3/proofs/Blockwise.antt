@@ -1,7 +1,8 @@
 -- One block of the second pass, and one block after the other. Assumes nothing.
+use Rattle.std.specs.Prelude.{Ok, Err, Result, IsOk}
 use Prim.Native.Nat.{ℕ, zero, suc, ◌+◌, ◌-◌, ◌*◌, ◌^◌, ◌≤◌, ◌<◌}
 use mathlib.Core.Path.{◌≡◌, refl, sym, ap, ◌∙◌}
-use mathlib.Core.Bool.{Bool, true, false}
+use mathlib.Core.Bool.{false}
 use mathlib.Core.List.{List, ◌++◌}
 use native.Mathlib.Omega.{arith}
 use native.Mathlib.Nat.{add-zero}
@@ -11,7 +12,6 @@ use lib.IntN.{ℤ, pos}
 use lib.ListN.{length, length-append, length-take, length-drop}
 use lib.Seq.{sets, length-sets}
 use lib.Signed.{mag}
-use Rattle.rules.specs.Vocabulary.{pick}
 use Rattle.rules.specs.Answers.{places, runs, blocks, run_of, block_of}
 use Rattle.rules.specs.Files.{color_number, or_default}
 use Rattle.rules.specs.Layout.{shade_at}
@@ -19,41 +19,36 @@ use Rattle.rules.specs.Limits.{block_cells_of}
 use Rattle.rules.specs.Records.{Event}
 use Rattle.rules.specs.Vp3.{Blocks, ended, block, cut, passed, blocks_from, stitch_events, strays, fault_in, events_in, colors_in}
 use Rattle.rules.specs.declared.Refusal.{Refusal}
-use Rattle.rules.specs.declared.Refusal.TheVariants.{OutOfRange}
-use Rattle.rules.specs.declared.Verdict.{Verdict}
-use Rattle.rules.specs.declared.Verdict.TheVariants.{Accepted, Refused}
 use Rattle.laws.specs.Buffers.{sets-append}
+use Rattle.laws.specs.Verdicts.{never_both, first-false}
 use Rattle.laws.specs.Vp3Fields.{block-all}
 use Rattle.read_builder.specs.Builders.{origin, changed, Small}
 use Rattle.read_builder.specs.declared.Builder.{Builder}
 use Rattle.read_builder.proofs.Parts.{own-colour, run_cells, block_cells, sizes}
-use Rattle.read_vp3_fields.specs.Fields.{within, BlockRead}
+use Rattle.read_vp3_fields.specs.Fields.{within, Designs, BlockRead}
 use Rattle.read_vp3_fields.specs.declared.Block.{Block}
-use Rattle.read_vp3_fields.specs.declared.Colored.TheVariants as colored
+use Rattle.read_vp3_fields.specs.declared.Design.{Design}
 use Rattle.read_vp3_stitches.specs.Fills as stitches
 use Rattle.read_vp3_stitches.specs.Fills.{built, runs_ended, places_on, Spare}
 use Rattle.read_vp3.specs.Fills.{Coloured, colour_by, places_by, runs_by, blocks_by, blocks_at, Ready, Fills, Fits, Filled}
-use Rattle.read_vp3.specs.declared.Filler.{Filler}
+use Rattle.read_passes.specs.declared.Turn.{Turn}
 use Rattle.read_vp3.proofs.Filled.{plain, grown, spare-built, StartAt, places-all, runs-all, blocks-all}
 use Rattle.read_vp3.proofs.Tallied.{few-events}
 
 -- ---- blocks without fault
 
-never : {r : Refusal} → Refused r ≡ Accepted → ⊥
-never e = let z : ◌≡◌ {A = ℕ} 0 1 = cc in omega arith
-
-pub not-refused : {bs : Blocks} {r : Refusal} → bs ≡ ended (Refused r) → fault_in bs ≡ Accepted → ⊥
+pub not-refused : {bs : Blocks} {r : Refusal} → bs ≡ ended (Err r) → fault_in bs ≡ Ok tt → ⊥
 unfolding fault_in
-not-refused e h = never (sym (ap fault_in e) ∙ h)
+not-refused e h = never_both (sym (ap fault_in e) ∙ h)
+
+pub found : {s : List ℕ} {bs : Blocks} → (r : Result Design Refusal) → Designs s bs r → fault_in bs ≡ Ok tt → IsOk r
+found (Ok d) t h = refl
+found (Err why) t h = absurd (not-refused t.tells h)
 
 start-at : (n : ℕ) (x y : ℤ) (s : List ℕ) → StartAt x y (blocks_from n x y s)
 unfolding blocks_from cut passed
 start-at zero x y s = tt
 start-at (suc n) x y s = block-all (StartAt x y) tt tt n x y s (λ x' y' rest c bytes l. (refl, refl))
-
-sound-both : (t : Bool) (v : Verdict) → pick t (Refused OutOfRange) v ≡ Accepted → (t ≡ false) × (v ≡ Accepted)
-sound-both true v e = absurd (never e)
-sound-both false v e = (refl, e)
 
 within-length : (s : List ℕ) (at end : ℕ) → at ≤ end → end ≤ length s → length (within s at end) ≡ end - at
 unfolding within
@@ -61,12 +56,13 @@ within-length s at end l h = simp (length-take, length-drop) (omega arith)
 
 -- ---- one block
 
-module _ {s : List ℕ} {end n : ℕ} {f : Filler} {np nr nb : ℕ} (g : Ready s end (suc n) f np nr nb) where
+module _ {s : List ℕ} {end n : ℕ} {f : Turn} {np nr nb : ℕ} (g : Ready s end (suc n) f np nr nb) where
   -- the fields are without fault too
-  pub no-fault : {r : Refusal} → BlockRead s f.at end f.b.x f.b.y (ltb 0 n) (colored.Not r) → ⊥
-  no-fault d = not-refused (d.tells n refl) g.sound
+  pub no-fault : (r : Result Block Refusal) → BlockRead s f.at end f.b.x f.b.y (ltb 0 n) r → IsOk r
+  no-fault (Ok k) d = refl
+  no-fault (Err why) d = absurd (not-refused (d.tells n refl) g.sound)
 
-  module _ {k : Block} (d : BlockRead s f.at end f.b.x f.b.y (ltb 0 n) (colored.Of k)) where
+  module _ {k : Block} (d : BlockRead s f.at end f.b.x f.b.y (ltb 0 n) (Ok k)) where
     abbrev bytes : List ℕ
     bytes = within s k.at k.end
 
@@ -76,7 +72,7 @@ module _ {s : List ℕ} {end n : ℕ} {f : Filler} {np nr nb : ℕ} (g : Ready s
     abbrev last : Builder
     last = built f.b es
 
-    abbrev next : Filler
+    abbrev next : Turn
     next = record { b = changed last k.x k.y; at = k.next }
 
     abbrev rest : Blocks
@@ -85,9 +81,9 @@ module _ {s : List ℕ} {end n : ℕ} {f : Filler} {np nr nb : ℕ} (g : Ready s
     tells : blocks_at s end (suc n) f ≡ block f.b.x f.b.y k.color bytes rest
     tells = d.tells n refl
 
-    sounds : (strays f.b.x f.b.y es ≡ false) × (fault_in rest ≡ Accepted)
+    sounds : (strays f.b.x f.b.y es ≡ false) × (fault_in rest ≡ Ok tt)
     unfolding fault_in
-    sounds = sound-both _ _ (sym (ap fault_in tells) ∙ g.sound)
+    sounds = first-false _ _ _ (sym (ap fault_in tells) ∙ g.sound)
 
     starts : StartAt k.x k.y rest
     starts = start-at n k.x k.y (within s k.next end)
@@ -229,7 +225,7 @@ coloured bs = coloured-by (colour_by bs) 0 bs (λ i. let e : 0 + i ≡ i = omega
 
 -- m blocks of bs are to come, from f on
 module _ (s : List ℕ) (end : ℕ) (bs : Blocks) where
-  pub record Going (P : List ℤ) (R B : List ℕ) (m : ℕ) (f : Filler) (P' : List ℤ) (R' B' : List ℕ) : Type 0 where
+  pub record Going (P : List ℤ) (R B : List ℕ) (m : ℕ) (f : Turn) (P' : List ℤ) (R' B' : List ℕ) : Type 0 where
     pub places : sets P 0 (places (pos 0) (pos 0) 0 (events_in bs)) ≡ sets P' (2 * f.b.points) (places_by f.b (blocks_at s end m f))
     pub runs : sets R 0 (runs 0 (events_in bs)) ≡ sets R' f.b.runs (runs_by (blocks_at s end m f))
     pub blocks : sets B 0 (blocks (colour_by bs) 0 0 0 (events_in bs)) ≡ sets B' (block_cells_of * f.b.blocks) (blocks_by (colour_by bs) f.b (blocks_at s end m f))
@@ -240,36 +236,17 @@ module _ (s : List ℕ) (end : ℕ) (bs : Blocks) where
     pub ready : Ready s end m f (length P') (length R') (length B')
 
   module _ {P : List ℤ} {R B : List ℕ} {P' : List ℤ} {R' B' : List ℕ} where
-    pub going_on : {m : ℕ} {f g : Filler} {P'' : List ℤ} {R'' B'' : List ℕ} → Going P R B (suc m) f P' R' B' → Fills s end m f P' P'' R' R'' B' B'' g
-        → Going P R B m g P'' R'' B''
-    going_on w t =
-        let k = t.blocks (colour_by bs) w.coloured in
-        record {
-          places = w.places ∙ t.places;
-          runs = w.runs ∙ t.runs;
-          blocks = w.blocks ∙ k.1;
-          coloured = k.0;
-          same_places = t.same_places ∙ w.same_places;
-          same_runs = t.same_runs ∙ w.same_runs;
-          same_blocks = t.same_blocks ∙ w.same_blocks;
-          ready = t.ready;
-        }
-
-    -- there is one more
-    pub going_more : {m : ℕ} {f : Filler} → Going P R B m f P' R' B' → 0 < m → Going P R B (suc (m - 1)) f P' R' B'
-    going_more {m} w h = let e : suc (m - 1) ≡ m = omega arith in rw e w
-
     -- there is none
-    at-end : {f : Filler} → Going P R B 0 f P' R' B' → Filled bs P P' R R' B B'
+    at-end : {f : Turn} → Going P R B 0 f P' R' B' → Filled bs P P' R R' B B'
     unfolding blocks_from events_in places runs blocks run_of block_of
     at-end w = record { places = sym w.places; runs = sym w.runs; blocks = sym w.blocks }
 
-    pub going_done : {m : ℕ} {f : Filler} → Going P R B m f P' R' B' → m ≤ 0 → Filled bs P P' R R' B B'
+    pub going_done : {m : ℕ} {f : Turn} → Going P R B m f P' R' B' → m ≤ 0 → Filled bs P P' R R' B B'
     going_done {m} w h = let e : m ≡ 0 = omega arith in at-end (rw e at w)
 
 -- all are to come
 pub going_start : (s : List ℕ) (from end count : ℕ) {b : Builder} {P : List ℤ} {R B : List ℕ} → (let bs = blocks_from count (pos 0) (pos 0) (within s from end) in
-    b ≡ origin → (from ≤ end) × ((end ≤ length s) × (length s ≤ 2097152)) → fault_in bs ≡ Accepted → Fits bs (length P) (length R) (length B)
+    b ≡ origin → (from ≤ end) × ((end ≤ length s) × (length s ≤ 2097152)) → fault_in bs ≡ Ok tt → Fits bs (length P) (length R) (length B)
     → Going s end bs P R B count (record { b = b; at = from }) P R B)
 going_start s from end count o h e w =
     let bs = blocks_from count (pos 0) (pos 0) (within s from end) in

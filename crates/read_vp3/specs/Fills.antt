@@ -1,16 +1,15 @@
 -- The second pass over the colour blocks: what is written and what is to come are the same from block to block.
-use Rattle.std.specs.Prelude.{ℕ, suc, ◌+◌, ◌-◌, ◌*◌, ◌≤◌, ◌≡◌, List, ℤ, pos, length}
+use Rattle.std.specs.Prelude.{ℕ, suc, ◌+◌, ◌-◌, ◌*◌, ◌≤◌, ◌≡◌, List, ℤ, pos, length, Ok}
 use Rattle.std.proofs.lemmas.List.Edits.{sets}
 use Rattle.rules.specs.Answers.{places, runs, blocks}
 use Rattle.rules.specs.Files.{color_number, or_default}
 use Rattle.rules.specs.Layout.{shade_at}
 use Rattle.rules.specs.Limits.{block_cells_of}
 use Rattle.rules.specs.Vp3.{Blocks, ended, block, blocks_from, fault_in, events_in, colors_in}
-use Rattle.rules.specs.declared.Verdict.TheVariants.{Accepted}
 use Rattle.read_builder.specs.declared.Builder.{Builder}
 use Rattle.read_vp3_fields.specs.Fields.{within}
 use Rattle.read_vp3_stitches.specs.Fills.{Spare}
-use Rattle.read_vp3.specs.declared.Filler.{Filler}
+use Rattle.read_passes.specs.declared.Turn.{Turn}
 
 -- c gives the colours of blocks, the first of them being number k
 abbrev pub Coloured : (ℕ → ℕ) → ℕ → Blocks → Type 0
@@ -33,12 +32,12 @@ blocks_by c b bs = blocks c b.block 0 0 (events_in bs)
 
 module _ (s : List ℕ) (end : ℕ) where
   -- n blocks from where a filler stands
-  abbrev pub blocks_at : ℕ → Filler → Blocks
+  abbrev pub blocks_at : ℕ → Turn → Blocks
   blocks_at n f = blocks_from n f.b.x f.b.y (within s f.at end)
 
   -- they are without fault, and their answers have room in buffers of np, nr and nb cells
-  pub record Ready (n : ℕ) (f : Filler) (np nr nb : ℕ) : Type 0 where
-    pub sound : fault_in (blocks_at n f) ≡ Accepted
+  pub record Ready (n : ℕ) (f : Turn) (np nr nb : ℕ) : Type 0 where
+    pub sound : fault_in (blocks_at n f) ≡ Ok tt
     pub shut : f.b.run ≡ 0
     pub fresh : f.b.begun ≡ 0
     pub place_cells : 2 * f.b.points + length (places_by f.b (blocks_at n f)) ≤ np
@@ -50,7 +49,7 @@ module _ (s : List ℕ) (end : ℕ) where
     pub short : length s ≤ 2097152
 
   -- from f, which has n more blocks behind its own, to g
-  pub record Fills (n : ℕ) (f : Filler) (P P' : List ℤ) (R R' B B' : List ℕ) (g : Filler) : Type 0 where
+  pub record Fills (n : ℕ) (f : Turn) (P P' : List ℤ) (R R' B B' : List ℕ) (g : Turn) : Type 0 where
     pub places : sets P (2 * f.b.points) (places_by f.b (blocks_at (suc n) f)) ≡ sets P' (2 * g.b.points) (places_by g.b (blocks_at n g))
     pub runs : sets R f.b.runs (runs_by (blocks_at (suc n) f)) ≡ sets R' g.b.runs (runs_by (blocks_at n g))
     pub blocks : (c : ℕ → ℕ) → Coloured c f.b.block (blocks_at (suc n) f)

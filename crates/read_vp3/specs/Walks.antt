@@ -1,5 +1,5 @@
 -- The first pass over the colour blocks: what is to come of the fault and of the counts is the same from block to block.
-use Rattle.std.specs.Prelude.{ℕ, suc, ◌+◌, ◌-◌, ◌*◌, ◌≤◌, ◌<◌, ◌≡◌, List, pos, length}
+use Rattle.std.specs.Prelude.{ℕ, suc, ◌+◌, ◌-◌, ◌*◌, ◌≤◌, ◌<◌, ◌≡◌, List, pos, length, Ok, Err, Result}
 use Rattle.rules.specs.Vocabulary.{pick}
 use Rattle.rules.specs.Answers.{places, runs, blocks}
 use Rattle.rules.specs.Limits.{block_cells_of}
@@ -8,17 +8,12 @@ use Rattle.rules.specs.Vp3.{Blocks, ended, block, blocks_from, stitch_events, st
 use Rattle.rules.specs.declared.Counts.{Counts}
 use Rattle.rules.specs.declared.Refusal.{Refusal}
 use Rattle.rules.specs.declared.Refusal.TheVariants.{OutOfRange}
-use Rattle.rules.specs.declared.Verdict.TheVariants.{Accepted, Refused}
 use Rattle.read_count.specs.Tallies.{tallied_change}
 use Rattle.read_count.specs.declared.tally.Tally.{Tally}
 use Rattle.read_vp3_fields.specs.Fields.{within}
 use Rattle.read_vp3_fields.specs.declared.Block.{Block}
 use Rattle.read_vp3_stitches.specs.Tallies.{tally_all, Spare}
-use Rattle.read_vp3.specs.declared.Walker.{Walker}
-use Rattle.read_vp3.specs.declared.Walk.{Walk}
-use Rattle.read_vp3.specs.declared.Walk.TheVariants as walk
-use Rattle.read_vp3.specs.declared.Checked.{Checked}
-use Rattle.read_vp3.specs.declared.Checked.TheVariants as checked
+use Rattle.read_vp3_stitches.specs.declared.follow.Way.{Way}
 
 -- what blocks make of a tally; each ends its run, and itself
 unfoldable pub tally_blocks : Tally → Blocks → Tally
@@ -34,10 +29,10 @@ pub record Told (es : List Event) (c : Counts) : Type 0 where
 
 module _ (s : List ℕ) (end : ℕ) where
   -- n blocks from where a walker stands
-  abbrev pub blocks_at : ℕ → Walker → Blocks
+  abbrev pub blocks_at : ℕ → Way → Blocks
   blocks_at n w = blocks_from n w.x w.y (within s w.at end)
 
-  pub record Stands (w : Walker) : Type 0 where
+  pub record Stands (w : Way) : Type 0 where
     pub inside : w.at ≤ end
     pub within : end ≤ length s
     pub short : length s ≤ 2097152
@@ -45,34 +40,30 @@ module _ (s : List ℕ) (end : ℕ) where
     pub fewer : w.t.blocks ≤ w.t.first
 
   -- from w, which has n more blocks behind its own, to v
-  pub record Passes (n : ℕ) (w v : Walker) : Type 0 where
+  pub record Passes (n : ℕ) (w v : Way) : Type 0 where
     pub fault : fault_in (blocks_at (suc n) w) ≡ fault_in (blocks_at n v)
     pub tally : tally_blocks w.t (blocks_at (suc n) w) ≡ tally_blocks v.t (blocks_at n v)
     pub later : w.at < v.at
     pub stands : Stands v
 
-  abbrev pub Walks : ℕ → Walker → Walk → Type 0
-  Walks n w (walk.On v) = Passes n w v
-  Walks n w (walk.Not r) = fault_in (blocks_at (suc n) w) ≡ Refused r
+  abbrev pub Walks : ℕ → Way → Result Way Refusal → Type 0
+  Walks n w (Ok v) = Passes n w v
+  Walks n w (Err r) = fault_in (blocks_at (suc n) w) ≡ Err r
 
 -- block k of a walker's, in a part that ends at `end`
-pub record Lies (end : ℕ) (k : Block) (w : Walker) : Type 0 where
+pub record Lies (end : ℕ) (k : Block) (w : Way) : Type 0 where
   pub later : w.at + 7 ≤ k.at
   pub ends : k.at ≤ k.end
   pub next : k.end ≤ k.next
   pub inside : k.next ≤ end
 
 -- the walker behind block k, if no stitch leads beyond 32 bits
-abbrev pub walk_of : List ℕ → Block → Walker → Walk
+abbrev pub walk_of : List ℕ → Block → Way → Result Way Refusal
 walk_of s k w =
-    pick (strays w.x w.y (stitch_events (within s k.at k.end))) (walk.Not OutOfRange)
-    (walk.On (record { t = tallied_change (tally_all w.t (stitch_events (within s k.at k.end))); x = k.x; y = k.y; at = k.next }))
+    pick (strays w.x w.y (stitch_events (within s k.at k.end))) (Err OutOfRange)
+    (Ok (record { t = tallied_change (tally_all w.t (stitch_events (within s k.at k.end))); x = k.x; y = k.y; at = k.next }))
 
 -- the first pass over some blocks
-abbrev pub Checks : Blocks → Checked → Type 0
-Checks bs (checked.Sound c) = (fault_in bs ≡ Accepted) × Told (events_in bs) c
-Checks bs (checked.Not r) = fault_in bs ≡ Refused r
-
-abbrev pub refused_by : Walk → Refusal
-refused_by (walk.On w) = OutOfRange
-refused_by (walk.Not r) = r
+abbrev pub Checks : Blocks → Result Counts Refusal → Type 0
+Checks bs (Ok c) = (fault_in bs ≡ Ok tt) × Told (events_in bs) c
+Checks bs (Err r) = fault_in bs ≡ Err r

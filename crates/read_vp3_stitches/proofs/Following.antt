@@ -1,4 +1,5 @@
 -- Stitches followed step by step come to the same as all at once; near to 0 none leads beyond 32 bits. Assumes nothing.
+use Rattle.std.specs.Prelude.{Some, None, Option}
 use Prim.Native.Nat.{ℕ, zero, suc, ◌+◌, ◌-◌, ◌*◌, ◌^◌, ◌≤◌, ◌<◌}
 use mathlib.Core.Path.{◌≡◌, refl, sym, ap, ◌∙◌}
 use mathlib.Core.Bool.{false, ◌||◌}
@@ -7,7 +8,8 @@ use native.Mathlib.Omega.{arith}
 use lib.IntN.{ℤ, pos, nat_abs, ◌+ℤ◌, +ℤ_idr}
 use lib.ListN.{length, drop}
 use mir.Syntax.{w32}
-use mir.Val.{to_z, of_z}
+use mir.Val.{SFits, to_z, of_z}
+use mir.Facts.{to_z-of_z}
 use Rattle.rules.specs.Records.{Event, jump}
 use Rattle.rules.specs.Vp3.{beyond, strays, stitch_events}
 use Rattle.laws.specs.Ints.{abs-add}
@@ -16,15 +18,11 @@ use Rattle.read_count.specs.Tallies.{tallied}
 use Rattle.read_count.specs.declared.tally.Tally.{Tally}
 use Rattle.read_vp3_stitches.specs.Steps.{next_of, StepAt}
 use Rattle.read_vp3_stitches.specs.Tallies.{tally_all, Spare}
-use Rattle.read_vp3_stitches.specs.Ways.{sum_of, followed, stitch_way, on_way, Follows}
-use Rattle.read_vp3_stitches.specs.declared.follow.Followed.{Followed}
-use Rattle.read_vp3_stitches.specs.declared.follow.Followed.TheVariants.{Within, Beyond}
-use Rattle.read_vp3_stitches.specs.declared.follow.Sum.TheVariants as sum
-use Rattle.read_vp3_stitches.specs.declared.follow.Trail.TheVariants as trail
+use Rattle.read_vp3_stitches.specs.Ways.{followed, stitch_way, on_way, Follows}
 use Rattle.read_vp3_stitches.specs.declared.follow.Way.{Way}
 use Rattle.read_vp3_stitches.specs.declared.steps.Step.{Step}
 use Rattle.read_vp3_stitches.specs.declared.steps.Step.TheVariants.{Stitch, EndRun, Nothing, Finish}
-use Rattle.read_vp3_stitches.proofs.Bounds.{near-range, is-beyond, is_within, read-sum}
+use Rattle.read_vp3_stitches.proofs.Bounds.{near-range, fits_within, unfit-beyond}
 use Rattle.read_vp3_stitches.proofs.Counting.{step-later, counts_step}
 use Rattle.read_vp3_stitches.proofs.Stepping.{end-at, somehow}
 
@@ -37,22 +35,23 @@ still x y es = rw (+ℤ_idr x, +ℤ_idr y)
 -- ---- a stitch that leads beyond, or not
 
 module _ (w : Way) (dx dy : ℤ) (n : ℕ) where
-  pub way-x : sum_of w.x dx ≡ sum.Beyond → trail.Beyond ≡ stitch_way w dx dy n
-  way-x e = rw (is-beyond w.x dx e)
+  pub way-x : (SFits w32 (w.x +ℤ dx) → ⊥) → None ≡ stitch_way w dx dy n
+  way-x e = rw (unfit-beyond _ e)
 
-  pub way-y : {x : ℤ} → sum_of w.x dx ≡ sum.Of x → sum_of w.y dy ≡ sum.Beyond → trail.Beyond ≡ stitch_way w dx dy n
-  way-y e f = rw (is_within w.x dx e, is-beyond w.y dy f)
+  module _ (e : SFits w32 (w.x +ℤ dx)) where
+    pub way-y : (SFits w32 (w.y +ℤ dy) → ⊥) → None ≡ stitch_way w dx dy n
+    way-y f = rw (fits_within _ e, unfit-beyond _ f)
 
-  pub way_on : {x y : ℤ} → sum_of w.x dx ≡ sum.Of x → sum_of w.y dy ≡ sum.Of y → {t : Tally} → t ≡ tallied 1 w.t
-      → trail.On (record { t = t; x = to_z w32 (of_z w32 x); y = to_z w32 (of_z w32 y); at = w.at + n }) ≡ stitch_way w dx dy n
-  way_on e f et = rw (et, read-sum w.x dx e, read-sum w.y dy f, is_within w.x dx e, is_within w.y dy f)
+    pub way_on : SFits w32 (w.y +ℤ dy) → {x y : ℤ} → x ≡ w.x +ℤ dx → y ≡ w.y +ℤ dy → {t : Tally} → t ≡ tallied 1 w.t
+        → Some (record { t = t; x = to_z w32 (of_z w32 x); y = to_z w32 (of_z w32 y); at = w.at + n }) ≡ stitch_way w dx dy n
+    way_on f ex ey et = rw (et, ex, ey, to_z-of_z e, to_z-of_z f, fits_within _ e, fits_within _ f)
 
 -- ---- one step
 
 module _ (s : List ℕ) (w : Way) (l : w.at < length s) (h : Spare w.t (length s - w.at)) where
   -- what is to be shown of a step that goes on
   on : (r : Step) → StepAt s w.at r → (v : Way) → on_way s w ≡ on_way s v → v.at ≡ next_of s w.at r
-      → Spare v.t (length s - next_of s w.at r) → Follows s w (trail.On v)
+      → Spare v.t (length s - next_of s w.at r) → Follows s w (Some v)
   on r e v k a p = (k, (rw a (step-later r e l), (rw a e.inside, rw a p)))
 
   pub follows-stitch : {dx dy : ℤ} {n : ℕ} → StepAt s w.at (Stitch dx dy n) → Follows s w (stitch_way w dx dy n)
@@ -62,37 +61,24 @@ module _ (s : List ℕ) (w : Way) (l : w.at < length s) (h : Spare w.t (length s
       (λ t. rw t (on _ e _ (rw (e.tells, t)) refl (counts_step (omega arith) h _ e).spare))
 
   pub follows-end-run : StepAt s w.at EndRun → {t : Tally} → t ≡ tallied 0 w.t → {x y : ℤ} → x ≡ w.x → y ≡ w.y
-      → Follows s w (trail.On (record { t = t; x = x; y = y; at = w.at + 2 }))
+      → Follows s w (Some (record { t = t; x = x; y = y; at = w.at + 2 }))
   unfolding strays tally_all
   follows-end-run e et ex ey = rw (et, ex, ey)
       (on EndRun e _ (rw (e.tells, still w.x w.y (stitch_events (drop (w.at + 2) s)))) refl (counts_step (omega arith) h EndRun e).spare)
 
-  pub follows_nothing : StepAt s w.at Nothing → {x y : ℤ} → x ≡ w.x → y ≡ w.y
-      → Follows s w (trail.On (record { t = w.t; x = x; y = y; at = w.at + 2 }))
-  follows_nothing e ex ey = rw (ex, ey) (on Nothing e _ (rw e.tells) refl (counts_step (omega arith) h Nothing e).spare)
-
   pub follows-finish : StepAt s w.at Finish → {x y : ℤ} → x ≡ w.x → y ≡ w.y
-      → Follows s w (trail.On (record { t = w.t; x = x; y = y; at = length s }))
+      → Follows s w (Some (record { t = w.t; x = x; y = y; at = length s }))
   follows-finish e ex ey =
       rw (ex, ey) (on Finish e _ (rw (e.tells, end-at s (length s) (omega arith))) refl (counts_step (omega arith) h Finish e).spare)
 
 -- ---- one after the other
 
-pub record Going (s : List ℕ) (whole : Followed) (w : Way) : Type 0 where
+pub record Going (s : List ℕ) (whole : Option Tally) (w : Way) : Type 0 where
   pub same : whole ≡ on_way s w
   pub inside : w.at ≤ length s
   pub spare : Spare w.t (length s - w.at)
 
-pub going_start : {s : List ℕ} {w : Way} → w.at ≤ length s → Spare w.t (length s - w.at) → Going s (on_way s w) w
-going_start l h = record { same = refl; inside = l; spare = h }
-
-pub going_on : {s : List ℕ} {whole : Followed} {w v : Way} → Going s whole w → Follows s w (trail.On v) → Going s whole v
-going_on g f = record { same = g.same ∙ f.0; inside = f.1.1.0; spare = f.1.1.1 }
-
-pub going-beyond : {s : List ℕ} {whole : Followed} {w : Way} → Going s whole w → Follows s w trail.Beyond → Beyond ≡ whole
-going-beyond g f = sym (g.same ∙ f)
-
-pub going_done : {s : List ℕ} {whole : Followed} {w : Way} → Going s whole w → length s ≤ w.at → Within w.t ≡ whole
+pub going_done : {s : List ℕ} {whole : Option Tally} {w : Way} → Going s whole w → length s ≤ w.at → Some w.t ≡ whole
 unfolding strays tally_all
 going_done {s} {w = w} g l = sym (g.same ∙ rw (end-at s w.at (omega arith)))
 
@@ -128,5 +114,5 @@ module _ (s : List ℕ) where
       near_step x y i q.step q.there hx hy (λ x y j l kx ky. near-stays fuel x y j (omega arith) kx ky)
 
   pub near_within : (t : Tally) (x y : ℤ) → nat_abs x + 5462 * length s < 2 ^ 31 → nat_abs y + 5462 * length s < 2 ^ 31
-      → Within (tally_all t (stitch_events s)) ≡ followed t x y (stitch_events s)
+      → Some (tally_all t (stitch_events s)) ≡ followed t x y (stitch_events s)
   near_within t x y hx hy = rw (near-stays (suc (length s)) x y 0 (omega arith) (omega arith) (omega arith))

@@ -6,7 +6,7 @@ use Rattle.rules.specs.Records.{Event, stitch, jump, change}
 use Rattle.rules.specs.Vp3.{strays, stitch_events}
 use Rattle.read_builder.specs.Builders.{stitched, jumped, changed}
 use Rattle.read_builder.specs.declared.Builder.{Builder}
-use Rattle.read_vp3_stitches.specs.declared.fill.Turn.{Turn}
+use Rattle.read_passes.specs.declared.Turn.{Turn}
 
 -- the builder after events
 unfoldable pub built : Builder → List Event → Builder

@@ -55,6 +55,7 @@ fn count_rest(bytes: &[u8], from: usize, first: Tally) -> Tally
 {
     let mut t = first;
     let mut at = from;
+    // Kept as while: each turn goes on by its step's own length.
     while at < bytes.len() {
         let p = count_step(t, bytes, at);
         t = p.t;
@@ -71,6 +72,7 @@ pub fn count_stitches(bytes: &[u8], first: Tally) -> Tally
     let mut t = first;
     let mut at: usize = 0;
     let end = last_turn(bytes.len(), 4);
+    // Kept as while: each turn goes on by its step's own length.
     while at < end {
         let p = count_pair(t, bytes, at);
         t = p.t;

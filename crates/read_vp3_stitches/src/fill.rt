@@ -8,15 +8,8 @@ ghost use Rattle.read_vp3_stitches.specs.Fills.{Ready, Filled, Turned};
 use crate::steps::{Step, step_at};
 use read_builder::Builder;
 use read_passes::answers::{hop, sew};
-use read_passes::last_turn;
+use read_passes::{Turn, last_turn};
 use read_records::bytes::s8;
-
-// The builder after a turn, and the place of the next step.
-#[derive(Clone, Copy)]
-pub struct Turn {
-    pub b: Builder,
-    pub at: usize,
-}
 
 // One step of any kind.
 fn fill_step(b: Builder, bytes: &[u8], at: usize, places: &mut [i32], runs: &mut [u32]) -> Turn
@@ -69,6 +62,7 @@ fn fill_rest(
 {
     let mut b = first;
     let mut at = from;
+    // Kept as while: each turn goes on by its step's own length.
     while at < bytes.len() {
         let t = fill_step(b, bytes, at, places, runs);
         b = t.b;
@@ -85,6 +79,7 @@ pub fn fill_stitches(bytes: &[u8], first: Builder, places: &mut [i32], runs: &mu
     let mut b = first;
     let mut at: usize = 0;
     let end = last_turn(bytes.len(), 4);
+    // Kept as while: each turn goes on by its step's own length.
     while at < end {
         let t = fill_pair(b, bytes, at, places, runs);
         b = t.b;

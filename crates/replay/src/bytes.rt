@@ -16,9 +16,5 @@ pub fn word(s: &[u8], at: usize) -> usize
 
 // A number of 16 bits in two's complement.
 pub fn signed_word(s: &[u8], at: usize) -> i32 {
-    let v = word(s, at);
-    if v < 32768 {
-        return v as i32;
-    }
-    (v as i32) - 65536
+    (word(s, at) as u16).cast_signed() as i32
 }

@@ -4,17 +4,16 @@
 pub mod bytes;
 pub mod packbits;
 
-ghost use Rattle.std.specs.Prelude.{◌<◌, ◌≤◌, length, IfOk};
+ghost use Rattle.std.specs.Prelude.{◌<◌, ◌≤◌, length, IfOk, IfSome};
 ghost use Rattle.std.specs.Io.{ReadsAtMost};
 
 use bytes::word;
 use std::io;
 use std::io::Read;
 
-// A case of a list: whether there is one, how many bytes of it there are, and whether these are all.
+// A case of a list: how many bytes of it there are, and whether these are all.
 #[derive(Clone, Copy)]
 pub struct Case {
-    pub there: bool,
     pub len: usize,
     pub whole: bool,
 }
@@ -31,6 +30,7 @@ pub fn read_full<R: Read>(input: &mut R, buf: &mut [u8]) -> io::Result<usize>
     ensures { ReadsAtMost result buf.new }
 {
     let mut done = 0;
+    // Kept as while: each turn goes on by as many bytes as were read.
     while done < buf.len() {
         let n = input.read(&mut buf[done..])?;
         if n == 0 {
@@ -49,33 +49,34 @@ fn fetch<R: Read>(input: &mut R, case: &mut [u8], len: usize) -> io::Result<usiz
     read_full(input, &mut case[..len])
 }
 
-// The next case of the list; two bytes before it tell its length.
-pub fn next<R: Read>(input: &mut R, case: &mut [u8]) -> io::Result<Case>
+// The next case of the list, if there is one; two bytes before it tell its length.
+pub fn next<R: Read>(input: &mut R, case: &mut [u8]) -> io::Result<Option<Case>>
     requires { 65536 ≤ length case.old }
-    ensures { IfOk result (λ c. c.len < 65536) }
+    ensures { IfOk result (λ next. IfSome next (λ c. c.len < 65536)) }
 {
     let mut head = [0u8; 2];
     if read_full(input, &mut head)? == 0 {
-        return Ok(Case {
-            there: false,
-            len: 0,
-            whole: false,
-        });
+        return Ok(None);
     }
     let len = word(&head, 0);
     let n = fetch(input, case, len)?;
-    Ok(Case {
-        there: true,
+    Ok(Some(Case {
         len: n,
         whole: n == len,
-    })
+    }))
 }
 
 pub fn verdict(right: bool) -> Outcome {
     if right {
-        return Outcome::Right;
+        Outcome::Right
+    } else {
+        Outcome::Wrong
     }
-    Outcome::Wrong
+}
+
+// Whether the cells of a buffer from one on have the mark that it was filled with.
+pub fn stays<T: Copy + PartialEq>(s: &[T], from: usize, mark: T) -> bool {
+    s.iter().skip(from).all(|x| *x == mark)
 }
 
 // The right, the wrong and the skipped cases of a group are counted side by side.

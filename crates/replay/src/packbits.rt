@@ -17,18 +17,6 @@ fn taken(control: u8) -> usize {
     1
 }
 
-// Whether all bytes are the same one.
-fn all_are(s: &[u8], b: u8) -> bool {
-    let mut i = 0;
-    while i < s.len() {
-        if s[i] != b {
-            return false;
-        }
-        i += 1;
-    }
-    true
-}
-
 // Whether a control with the bytes that follow it stands for these of the file.
 fn run_same(control: u8, follow: &[u8], file: &[u8]) -> bool {
     if control < 128 {
@@ -37,13 +25,15 @@ fn run_same(control: u8, follow: &[u8], file: &[u8]) -> bool {
     if control == 128 {
         return false;
     }
-    all_are(file, byte(follow, 0))
+    let b = byte(follow, 0);
+    file.iter().all(|x| *x == b)
 }
 
 // Whether the packed bytes open to the file, and nothing is left of either.
 pub fn opens_to(packed: &[u8], file: &[u8]) -> bool {
     let mut at = 0;
     let mut to = 0;
+    // Kept as while: each turn goes on by its control's own length.
     while at < packed.len() {
         let control = packed[at];
         let follow = taken(control);

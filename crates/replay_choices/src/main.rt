@@ -43,6 +43,7 @@ fn replay(cases: &[u8], n: usize, what: u8) -> Score
 {
     let mut s = Score { right: 0, wrong: 0 };
     let mut at = 0;
+    // Kept as while: each turn goes on by its case's own length.
     while at + 2 <= n {
         let len = word(cases, at);
         let start = at + 2;

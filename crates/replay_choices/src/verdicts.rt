@@ -3,7 +3,7 @@ ghost use Rattle.std.specs.Prelude.{◌<◌};
 
 use geom::Bounds;
 use replay::bytes::{byte, signed_word, word};
-use rules::{Color, Nearest, Previous, Slot};
+use rules::Color;
 
 pub fn agrees(case: &[u8], what: u8) -> bool {
     match what {
@@ -26,10 +26,10 @@ fn distance(case: &[u8]) -> bool {
     (d as usize) == word(case, 7) + 65536 * word(case, 9)
 }
 
-fn entry(f: Nearest) -> usize {
+fn entry(f: Option<(usize, u32)>) -> usize {
     match f {
-        Nearest::Near(i, _) => i,
-        Nearest::NoThread => 255,
+        Some((i, _)) => i,
+        None => 255,
     }
 }
 
@@ -42,38 +42,34 @@ fn nearest(case: &[u8]) -> bool {
 // A table of threads and JEF's entries for them.
 fn jef(case: &[u8]) -> bool {
     let n = byte(case, 1) as usize;
-    let mut last = Previous::First;
-    let mut i = 0;
-    while i < n {
+    let mut last = None;
+    for i in 0..n {
         let t = color(case, 2 + 3 * i);
         let k = jef_threads::entry_of(jef_threads::jef_choice(last, t));
         if k != byte(case, 2 + 3 * n + i) as usize {
             return false;
         }
-        last = Previous::Entry(k, t);
-        i += 1;
+        last = Some((k, t));
     }
     true
 }
 
 // An entry of the palette, if the case's bits keep it.
-fn kept(case: &[u8], s: Slot, i: usize) -> Slot
+fn kept(case: &[u8], s: Option<Color>, i: usize) -> Option<Color>
     requires { i < 65 }
 {
     let bits = byte(case, 4 + i / 8);
     if (bits >> (i % 8)) % 2 == 1 {
         return s;
     }
-    Slot::Empty
+    None
 }
 
 // A colour and its entry of a part of PEC's palette.
 fn part(case: &[u8]) -> bool {
     let mut palette = formats::pec_palette();
-    let mut i = 0;
-    while i < 65 {
+    for i in 0..65 {
         palette[i] = kept(case, palette[i], i);
-        i += 1;
     }
     let f = formats::nearest_index(color(case, 1), palette);
     entry(f) == byte(case, 13) as usize
@@ -103,11 +99,9 @@ fn bounds(case: &[u8]) -> bool {
     let mut xs = [0i32; 64];
     let mut ys = [0i32; 64];
     let kinds = [0u8; 64];
-    let mut i = 0;
-    while i < n {
+    for i in 0..n {
         xs[i] = signed_word(case, 3 + 4 * i);
         ys[i] = signed_word(case, 5 + 4 * i);
-        i += 1;
     }
     let b = formats::stream_bounds(&xs[..n], &ys[..n], &kinds[..n]);
     same_bounds(b, case, 3 + 4 * n)

@@ -1,11 +1,15 @@
 // Whether the port reads a case as the Rust did.
-use super::buffers::{cells_stay, mark_cells, mark_places, places_stay};
 use super::bytes::extension;
 use super::walk::walked;
 use read_header::part;
 use replay::bytes::{byte, word};
-use replay::{Outcome, verdict};
-use rules::{BLOCK_CELLS, Counts, ReadAnswer, Refusal};
+use replay::{Outcome, stays, verdict};
+use rules::{BLOCK_CELLS, Counts, Refusal};
+
+// Every cell of a buffer that is passed to a call has a mark before it, so that a write shows.
+pub const PLACE: i32 = -2023406815;
+
+pub const CELL: u32 = 2271560481;
 
 // The stored answer is the refusal alone, and nothing was written.
 fn unread(
@@ -16,33 +20,19 @@ fn unread(
     runs: &[u32],
     blocks: &[u32],
 ) -> bool {
-    if told.len() != 1 {
-        return false;
-    }
-    if (byte(told, 0) as u32) != write_refusals::number(why) {
-        return false;
-    }
-    if label.len() != 0 {
-        return false;
-    }
-    if !places_stay(places, 0) {
-        return false;
-    }
-    if !cells_stay(runs, 0) {
-        return false;
-    }
-    cells_stay(blocks, 0)
+    told.len() == 1
+        && (byte(told, 0) as u32) == write_refusals::number(why)
+        && label.len() == 0
+        && stays(places, 0, PLACE)
+        && stays(runs, 0, CELL)
+        && stays(blocks, 0, CELL)
 }
 
 // Cells past the answer are as they were.
 fn rest_stays(c: Counts, places: &[i32], runs: &[u32], blocks: &[u32]) -> bool {
-    if !places_stay(places, 2 * (c.points as usize)) {
-        return false;
-    }
-    if !cells_stay(runs, c.runs as usize) {
-        return false;
-    }
-    cells_stay(blocks, BLOCK_CELLS * (c.blocks as usize))
+    stays(places, 2 * (c.points as usize), PLACE)
+        && stays(runs, c.runs as usize, CELL)
+        && stays(blocks, BLOCK_CELLS * (c.blocks as usize), CELL)
 }
 
 // The blocks of the stored answer, behind the cuts and their count; and the counts.
@@ -61,17 +51,10 @@ fn blocks_same(told: &[u8], c: Counts, places: &[i32], runs: &[u32], blocks: &[u
         return false;
     }
     let rest = part(told, 4, 65536);
-    let w = walked(rest, &blocks[..n], runs, places);
-    if !w.same {
+    let Some(w) = walked(rest, &blocks[..n], runs, places) else {
         return false;
-    }
-    if w.at != rest.len() {
-        return false;
-    }
-    if w.cell != 2 * (c.points as usize) {
-        return false;
-    }
-    w.run == (c.runs as usize)
+    };
+    w.at == rest.len() && w.cell == 2 * (c.points as usize) && w.run == (c.runs as usize)
 }
 
 // The stored answer has no refusal, and label, blocks and counts are the same.
@@ -103,18 +86,17 @@ fn agrees(case: &[u8], places: &mut [i32], runs: &mut [u32], blocks: &mut [u32])
     let file = part(case, start + 2, n);
     let told = part(case, start + 2 + n, 65536);
     let label = read_refusals::label(ext, file);
-    let answer = read::read(ext, file, places, runs, blocks);
-    match answer {
-        ReadAnswer::Read(c) => read_same(told, label, c, places, runs, blocks),
-        ReadAnswer::Unread(why) => unread(told, label, why, places, runs, blocks),
+    match read::read(ext, file, places, runs, blocks) {
+        Ok(c) => read_same(told, label, c, places, runs, blocks),
+        Err(why) => unread(told, label, why, places, runs, blocks),
     }
 }
 
 // The buffers come marked, and are left so.
 pub fn judged(case: &[u8], places: &mut [i32], runs: &mut [u32], blocks: &mut [u32]) -> Outcome {
     let right = agrees(case, places, runs, blocks);
-    mark_places(places);
-    mark_cells(runs);
-    mark_cells(blocks);
+    places.fill(PLACE);
+    runs.fill(CELL);
+    blocks.fill(CELL);
     verdict(right)
 }

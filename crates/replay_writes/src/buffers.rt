@@ -2,6 +2,7 @@
 ghost use Rattle.std.specs.Prelude.{◌≤◌, ◌<◌, length};
 
 use replay::bytes::{byte, signed_word};
+use replay::stays;
 
 // The mark is another in a buffer a byte longer: a byte that is not written is not right in both.
 fn mark_of(len: usize) -> u8 {
@@ -10,24 +11,12 @@ fn mark_of(len: usize) -> u8 {
 
 pub fn mark(s: &mut [u8]) {
     let m = mark_of(s.len());
-    let mut i = 0;
-    while i < s.len() {
-        s[i] = m;
-        i += 1;
-    }
+    s.fill(m);
 }
 
 // Whether the bytes from one on have their mark.
-pub fn stays(s: &[u8], from: usize) -> bool {
-    let m = mark_of(s.len());
-    let mut i = from;
-    while i < s.len() {
-        if s[i] != m {
-            return false;
-        }
-        i += 1;
-    }
-    true
+pub fn rest_stays(s: &[u8], from: usize) -> bool {
+    stays(s, from, mark_of(s.len()))
 }
 
 // The first n commands of a list, five bytes each.
@@ -35,13 +24,10 @@ pub fn unpack(list: &[u8], n: usize, xs: &mut [i32], ys: &mut [i32], kinds: &mut
     requires n_bound { n < 65536 }
     requires n_in_bounds { (n ≤ length xs.old) × ((n ≤ length ys.old) × (n ≤ length kinds.old)) }
 {
-    let mut at = 0;
-    let mut i = 0;
-    while i < n {
+    for i in 0..n {
+        let at = 5 * i;
         xs[i] = signed_word(list, at);
         ys[i] = signed_word(list, at + 2);
         kinds[i] = byte(list, at + 4);
-        at += 5;
-        i += 1;
     }
 }

@@ -5,12 +5,12 @@ mod buffers;
 mod bytes;
 mod verdicts;
 
-ghost use Rattle.std.specs.Prelude.{◌≡◌, ◌<◌, length};
+ghost use Rattle.std.specs.Prelude.{◌<◌};
 ghost use Rattle.replay_writes.specs.Room.{Roomy};
 
 use read_header::part;
 use replay::bytes::byte;
-use replay::{Outcome, count};
+use replay::{Case, Outcome, count};
 use std::fs::File;
 use std::io;
 use std::io::Read;
@@ -23,34 +23,28 @@ fn group(case: &[u8]) -> usize
     if case.len() == 0 {
         return 6;
     }
-    let format = byte(case, 0) as usize;
-    if format < 6 { format } else { 6 }
+    (byte(case, 0) as usize).min(6)
 }
 
-// The next case of the list; false if there is none. One that runs past the end is wrong.
-fn replay_one<R: Read>(
-    input: &mut R,
+// A case that was read. One that runs past the end is wrong.
+fn replay_one(
+    next: Case,
     tally: &mut [u64; 21],
-    case: &mut [u8],
+    case: &[u8],
     xs: &mut [i32],
     ys: &mut [i32],
     kinds: &mut [u8],
     out: &mut [u8],
-) -> io::Result<bool>
-    requires { (65536 ≡ length case.old) × Roomy xs.old ys.old kinds.old out.old }
+)
+    requires { Roomy xs.old ys.old kinds.old out.old }
 {
-    let next = replay::next(input, case)?;
-    if !next.there {
-        return Ok(false);
-    }
     let bytes = part(case, 0, next.len);
     let group = group(bytes);
     if !next.whole {
         count(tally, group, Outcome::Wrong);
-        return Ok(true);
+        return;
     }
     count(tally, group, judged(bytes, xs, ys, kinds, out));
-    Ok(true)
 }
 
 // Goes through the list to its end, or through as many cases as 32 bits count.
@@ -60,14 +54,11 @@ fn replay<R: Read>(input: &mut R, tally: &mut [u64; 21]) -> io::Result<()> {
     let mut ys = [0i32; 65536];
     let mut kinds = [0u8; 65536];
     let mut out = [0u8; 65536];
-    let mut left: u32 = 4294967295;
-    while 0 < left {
-        if !replay_one(
-            input, tally, &mut case, &mut xs, &mut ys, &mut kinds, &mut out,
-        )? {
+    for _ in 0..u32::MAX {
+        let Some(next) = replay::next(input, &mut case)? else {
             return Ok(());
-        }
-        left -= 1;
+        };
+        replay_one(next, tally, &case, &mut xs, &mut ys, &mut kinds, &mut out);
     }
     Ok(())
 }

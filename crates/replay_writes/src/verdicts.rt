@@ -2,13 +2,13 @@
 ghost use Rattle.std.specs.Prelude.{◌≡◌, ◌≤◌, length};
 ghost use Rattle.replay_writes.specs.Room.{Roomy};
 
-use super::buffers::{mark, stays, unpack};
+use super::buffers::{mark, rest_stays, unpack};
 use super::bytes::{file_len, from_list, is_whole, list_len, name, packed, threads};
 use read_header::part;
 use replay::bytes::byte;
 use replay::packbits::opens_to;
 use replay::{Outcome, verdict};
-use rules::WriteAnswer;
+use rules::{Refusal, Written};
 
 // Formats are 0 to 5.
 fn extension(format: u8) -> [u8; 3]
@@ -25,7 +25,13 @@ fn extension(format: u8) -> [u8; 3]
 }
 
 // Writes the list of the case to a buffer that is marked first.
-fn write(case: &[u8], xs: &[i32], ys: &[i32], kinds: &[u8], out: &mut [u8]) -> WriteAnswer {
+fn write(
+    case: &[u8],
+    xs: &[i32],
+    ys: &[i32],
+    kinds: &[u8],
+    out: &mut [u8],
+) -> Result<Written, Refusal> {
     mark(out);
     let ext = extension(byte(case, 0));
     stitch_box::write(&ext, name(case), xs, ys, kinds, threads(case), out)
@@ -35,29 +41,16 @@ fn write(case: &[u8], xs: &[i32], ys: &[i32], kinds: &[u8], out: &mut [u8]) -> W
 fn writes_same(case: &[u8], n: usize, xs: &[i32], ys: &[i32], kinds: &[u8], out: &mut [u8]) -> bool
     requires { n ≤ length out.old }
 {
-    let answer = write(case, xs, ys, kinds, out);
-    let WriteAnswer::Written(len, _) = answer else {
+    let Ok(Written { len, .. }) = write(case, xs, ys, kinds, out) else {
         return false;
     };
-    if len != n {
-        return false;
-    }
-    if !opens_to(packed(case), part(out, 0, n)) {
-        return false;
-    }
-    stays(out, n)
+    len == n && opens_to(packed(case), part(out, 0, n)) && rest_stays(out, n)
 }
 
 // A buffer too short is refused, and stays.
 fn refuses(case: &[u8], xs: &[i32], ys: &[i32], kinds: &[u8], out: &mut [u8]) -> bool {
     let answer = write(case, xs, ys, kinds, out);
-    let WriteAnswer::Unwritten(why) = answer else {
-        return false;
-    };
-    if write_refusals::number(why) != 11 {
-        return false;
-    }
-    stays(out, 0)
+    matches!(answer, Err(Refusal::BufferTooShort)) && rest_stays(out, 0)
 }
 
 // Writes to a buffer as long as the file, to one a byte longer, and to one a byte shorter.

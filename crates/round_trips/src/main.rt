@@ -2,7 +2,7 @@
 #![tactic(auto)]
 
 use read_header::part;
-use rules::RoundTripAnswer;
+use rules::{Counts, RoundTripRefusal};
 use std::io;
 use stitch_box::{label, write_and_read, write_bound};
 
@@ -17,22 +17,17 @@ fn number(out: &impl Print, name: &[u8], n: u64) -> io::Result<()> {
 }
 
 fn signed(out: &impl Print, z: i32) -> io::Result<()> {
-    let w = z as i64;
-    if w < 0 {
-        return number(out, b" -", (0 - w) as u64);
+    let n = z.unsigned_abs() as u64;
+    if z < 0 {
+        return number(out, b" -", n);
     }
-    number(out, b" ", w as u64)
+    number(out, b" ", n)
 }
 
 // The first n cells.
 fn cells(out: &impl Print, places: &[i32], n: usize) -> io::Result<()> {
-    let mut i = 0;
-    while i < n {
-        if places.len() <= i {
-            return Ok(());
-        }
-        signed(out, places[i])?;
-        i += 1;
+    for z in places.iter().take(n) {
+        signed(out, *z)?;
     }
     Ok(())
 }
@@ -43,20 +38,20 @@ fn show(
     ext: &[u8],
     file: &[u8],
     places: &[i32],
-    answer: RoundTripAnswer,
+    answer: Result<(usize, Counts), RoundTripRefusal>,
 ) -> io::Result<()> {
     text(out, ext)?;
     match answer {
-        RoundTripAnswer::NotWritten(why) => number(
+        Err(RoundTripRefusal::NotWritten(why)) => number(
             out,
             b": not written, ",
             write_refusals::number(why) as u64,
         )?,
-        RoundTripAnswer::NotRead(len, why) => {
+        Err(RoundTripRefusal::NotRead(len, why)) => {
             number(out, b": written ", len as u64)?;
             number(out, b", not read, ", write_refusals::number(why) as u64)?;
         }
-        RoundTripAnswer::ReadBack(len, c) => {
+        Ok((len, c)) => {
             number(out, b": written ", len as u64)?;
             number(out, b", points ", c.points as u64)?;
             number(out, b" runs ", c.runs as u64)?;

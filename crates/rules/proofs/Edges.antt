@@ -1,6 +1,6 @@
 -- Each rule at its edge: one theorem over a table of questions and answers. The answers are the Rust's, and the numbers of refused lists
 -- the specification's; `compare edges` asks for them anew.
-use Rattle.std.specs.Prelude.{◌≡◌, refl, List, [], ◌∷◌, ◌++◌, map, ℕ, ℤ, pos, negsuc, ◌+ℤ◌, length, replicate, take, drop}
+use Rattle.std.specs.Prelude.{◌≡◌, refl, List, [], ◌∷◌, ◌++◌, map, ℕ, ℤ, pos, negsuc, ◌+ℤ◌, length, replicate, take, drop, Option, Result, ⊤, Bool}
 use Rattle.std.specs.Float.Ieee.{add, sub, mul, div, neg, lt, of_int, of_bits, round, to_bits}
 use Rattle.rules.specs.Vocabulary.{between, all, any, count, keep, next, first_where, or_else, last_where, same_bytes, signed, bits_of}
 use Rattle.rules.specs.Vocabulary.{little, from_little, joined, digit_at, right, padded, fuelled}
@@ -26,21 +26,19 @@ use Rattle.rules.specs.Pes.{pes_file, part_at}
 use Rattle.rules.specs.Exp.{two, control, after80, pair_first, pair_of, exp_cmd, exp_file}
 use Rattle.rules.specs.Jef.{jef_records, jef_count, jef_entry, jef_stored, jef_cmd, word, points_in, point_count_of, jef_hoop, half_up, edges as hoop_edges}
 use Rattle.rules.specs.Jef.{or_one, jef_table, jef_distance, words, jef_header, jef_file}
-use Rattle.rules.specs.Refusals.{number_of, lower, named, named_in, extension_of, bad_list, outside, place_outside, changes, too_many}
+use Rattle.rules.specs.Refusals.{number_of, lower, named, named_in, extension_of, bad_list, outside, place_outside, changes, too_many, answer_number}
 use Rattle.rules.specs.Refusals.{moves, moved, least_step, greatest_step, step_in, steps_past, step_too_long, verdict, list_refusals}
 use Rattle.rules.specs.Answers.{points_after, start_of, places, run_of, runs, block_of, begun_after, blocks, point_total, block_total, cuts}
 use Rattle.rules.specs.Files.{file_of, distance_of, events_of, label_of, stored, defaults, color_number, or_default, colour_of, places_of, runs_of}
 use Rattle.rules.specs.Files.{blocks_of, cuts_of, file_refusals, no_room, file_verdict, read_verdict, places_told, runs_told, blocks_told}
-use Rattle.rules.specs.Files.{cuts_told, counts_of, read_answer, read_number, read_counts, filled, file_told, write_verdict, write_answer}
-use Rattle.rules.specs.Files.{distance_told, write_number, write_length, write_distance, label_under, label_told}
-use Rattle.rules.specs.Hoop.{in_hoop, all_in_hoop, fits_answer, fits_told, fits_number, fits_bit}
-use Rattle.rules.specs.declared.Extension.{Extension}
-use Rattle.rules.specs.declared.FitsAnswer.{FitsAnswer}
+use Rattle.rules.specs.Files.{cuts_told, counts_of, read_answer, read_counts, filled, file_told, write_verdict, write_answer}
+use Rattle.rules.specs.Files.{distance_told, write_length, write_distance, label_under, label_told}
+use Rattle.rules.specs.Hoop.{in_hoop, all_in_hoop, fits_answer, fits_told, fits_bit}
 use Rattle.rules.specs.declared.Format.{Format}
 use Rattle.rules.specs.declared.Format.TheVariants.{Pes, Pec, Dst, Exp, Jef}
-use Rattle.rules.specs.declared.ReadAnswer.{ReadAnswer}
-use Rattle.rules.specs.declared.Verdict.{Verdict}
-use Rattle.rules.specs.declared.WriteAnswer.{WriteAnswer}
+use Rattle.rules.specs.declared.Counts.{Counts}
+use Rattle.rules.specs.declared.Refusal.{Refusal}
+use Rattle.rules.specs.declared.Written.{Written}
 
 -- what is asked, and last the answer
 pub data Row : Type 0 where
@@ -70,31 +68,31 @@ sums z [] = []
 sums z (d ∷ ds) = (z +ℤ d) ∷ sums (z +ℤ d) ds
 
 -- the numbers of an answer
-abbrev read_told : ReadAnswer → List ℕ
-read_told a = read_number a ∷ (read_counts a).points ∷ (read_counts a).runs ∷ (read_counts a).blocks ∷ (read_counts a).cuts ∷ []
+abbrev read_told : Result Counts Refusal → List ℕ
+read_told a = answer_number a ∷ (read_counts a).points ∷ (read_counts a).runs ∷ (read_counts a).blocks ∷ (read_counts a).cuts ∷ []
 
-abbrev write_told : WriteAnswer → List ℕ
-write_told a = write_number a ∷ write_length a ∷ write_distance a ∷ []
+abbrev write_told : Result Written Refusal → List ℕ
+write_told a = answer_number a ∷ write_length a ∷ write_distance a ∷ []
 
-abbrev fits_gives : FitsAnswer → List ℕ
-fits_gives a = fits_number a ∷ fits_bit a ∷ []
+abbrev fits_gives : Result Bool Refusal → List ℕ
+fits_gives a = answer_number a ∷ fits_bit a ∷ []
 
 -- what the definitions answer
 abbrev pub found : Row → Answer
 found (reads f s blocks runs places) = reading (blocks_of f s) (runs_of f s) (places_of f s)
 found (labelled ext s label) = cells (label_told (extension_of ext) s)
 found (told_by_read ext s n m k answer) =
-    let e : Extension = extension_of ext in
+    let e : Option Format = extension_of ext in
     cells (read_told (read_answer (read_verdict e s n m k) (counts_of (places_told e s) (runs_told e s) (blocks_told e s) (cuts_told e s))))
 found (leaves ext s lent after) =
     cells (filled (read_verdict (extension_of ext) s 100 (length lent) 100) (runs_told (extension_of ext) s) lent)
 found (writes f name dxs dys kinds threads i n part) =
     cells (take n (drop i (file_of f name (commands (sums (pos 0) dxs) (sums (pos 0) dys) kinds) threads)))
 found (told_by_write ext dxs dys kinds threads n answer) =
-    let e : Extension = extension_of ext in
+    let e : Option Format = extension_of ext in
     let xs : List ℤ = sums (pos 0) dxs in
     let ys : List ℤ = sums (pos 0) dys in
-    let v : Verdict = write_verdict e [] xs ys kinds threads n in
+    let v : Result ⊤ Refusal = write_verdict e [] xs ys kinds threads n in
     cells (write_told (write_answer (distance_told e threads) v (length (file_told e [] (commands xs ys kinds) threads))))
 found (told_by_fits ext s left right top bottom answer) =
     cells (fits_gives (fits_told (extension_of ext) s (record { left = left; right = right; top = top; bottom = bottom })))
@@ -1062,23 +1060,34 @@ Hold [] = Unit {0}
 Hold (rows ∷ topics) = (map found rows ≡ map told rows) × Hold topics
 
 pub edges-hold : Hold edges
-unfolding edges between all any count keep next first_where or_else last_where same_bytes signed bits_of little from_little joined digit_at right
-    padded fuelled op_of commands ends_once placed same_place is_change is_trim stands any_from written last_x last_y min_z max_z least_from
-    greatest_from least greatest min_x min_y max_x max_y width height threads_of pec_name dst_name pec_chart jef_chart blank_icon half_to_even gap
-    weighed distance no_nearer nearest nearest_index nearest_first choices pec_palette jef_palette same_color entry_of jef_nearest jef_choice
-    jef_entries away farthest record_then events word_at blank trim_start before_end trim_end trimmed cut_before lines_of begins shade_at from_chart
-    bit weigh dst_x dst_y under dst_record dst_first last_label hex_digit hex_pair hex_color six_digits drop_hashes before_comma line_color add_color
-    line_colors digit rest z27 z9 z3 z1 pair dst_bytes dst_cmd line signed_right record_count dst_text dst_file jumps_first stitch_next cut_next
-    dst_cuts at_least_one lesser floor_of within pixel painted marked drawn at_front color_blocks icons long_axis axis_of after_axis both_axes
-    starts pec_change pec_first pec_events pec_label pec_entry pec_stored no_count wide pec_value pec_start pec_next pause pec_cmd pec_stitches
-    distinct give given_to found_or unique_palette pec_distance pec_colors pec_header pec_block pec_part pec_file halves matrix_field thread_code
-    run_length run_x run_y pes_start opens pes_next pes_point pes_open pes_cmd pes_sections section_count opens_section color_log pes_string shorts
-    pes_blocks pes_middle pes_file part_at two control after80 pair_first pair_of exp_cmd exp_file jef_records jef_count jef_entry jef_stored jef_cmd
-    word points_in point_count_of jef_hoop half_up hoop_edges or_one jef_table jef_distance words jef_header jef_file number_of lower named named_in
-    extension_of bad_list outside place_outside changes too_many moves moved least_step greatest_step step_in steps_past step_too_long verdict
-    list_refusals points_after start_of places run_of runs block_of begun_after blocks point_total block_total cuts file_of distance_of events_of
-    label_of stored defaults color_number or_default colour_of places_of runs_of blocks_of cuts_of file_refusals no_room file_verdict read_verdict
-    places_told runs_told blocks_told cuts_told counts_of read_answer read_number read_counts filled file_told distance_told write_verdict
-    write_answer write_number write_length write_distance label_under label_told in_hoop all_in_hoop fits_answer fits_told fits_number fits_bit
-    add sub mul div neg lt of_int of_bits round to_bits
+unfolding
+    edges between all any count keep next first_where or_else last_where
+    same_bytes signed bits_of little from_little joined digit_at right padded fuelled
+    op_of commands ends_once placed same_place is_change is_trim stands any_from written
+    last_x last_y min_z max_z least_from greatest_from least greatest min_x min_y
+    max_x max_y width height threads_of pec_name dst_name pec_chart jef_chart blank_icon
+    half_to_even gap weighed distance no_nearer nearest nearest_index nearest_first choices pec_palette
+    jef_palette same_color entry_of jef_nearest jef_choice jef_entries away farthest record_then events
+    word_at blank trim_start before_end trim_end trimmed cut_before lines_of begins shade_at
+    from_chart bit weigh dst_x dst_y under dst_record dst_first last_label hex_digit
+    hex_pair hex_color six_digits drop_hashes before_comma line_color add_color line_colors digit rest
+    z27 z9 z3 z1 pair dst_bytes dst_cmd line signed_right record_count
+    dst_text dst_file jumps_first stitch_next cut_next dst_cuts at_least_one lesser floor_of within
+    pixel painted marked drawn at_front color_blocks icons long_axis axis_of after_axis
+    both_axes starts pec_change pec_first pec_events pec_label pec_entry pec_stored no_count wide
+    pec_value pec_start pec_next pause pec_cmd pec_stitches distinct give given_to found_or
+    unique_palette pec_distance pec_colors pec_header pec_block pec_part pec_file halves matrix_field thread_code
+    run_length run_x run_y pes_start opens pes_next pes_point pes_open pes_cmd pes_sections
+    section_count opens_section color_log pes_string shorts pes_blocks pes_middle pes_file part_at two
+    control after80 pair_first pair_of exp_cmd exp_file jef_records jef_count jef_entry jef_stored
+    jef_cmd word points_in point_count_of jef_hoop half_up hoop_edges or_one jef_table jef_distance
+    words jef_header jef_file number_of lower named named_in extension_of bad_list outside
+    place_outside changes too_many moves moved least_step greatest_step step_in steps_past step_too_long
+    verdict list_refusals points_after start_of places run_of runs block_of begun_after blocks
+    point_total block_total cuts file_of distance_of events_of label_of stored defaults color_number
+    or_default colour_of places_of runs_of blocks_of cuts_of file_refusals no_room file_verdict read_verdict
+    places_told runs_told blocks_told cuts_told counts_of read_answer answer_number read_counts filled file_told
+    distance_told write_verdict write_answer write_length write_distance label_under label_told in_hoop all_in_hoop fits_answer
+    fits_told fits_bit add sub mul div neg lt of_int of_bits
+    round to_bits
 edges-hold = (refl, (refl, (refl, (refl, (refl, (refl, (refl, (refl, (refl, (refl, (refl, (refl, (refl, (refl, (refl, (refl, (refl, tt)))))))))))))))))

@@ -1,21 +1,22 @@
 -- Request 4's rules at their edges: a table of jobs and what their import tells, and one of exports, computed. The answers are worked out by
 -- hand from the request; `compare jobs` asks a plain version of it the same and more.
-use Rattle.std.specs.Prelude.{ℕ, ◌≡◌, refl, List, [], ◌∷◌, ◌++◌, map, ℤ, pos, negsuc, replicate}
+use Rattle.std.specs.Prelude.{ℕ, ◌≡◌, refl, List, [], ◌∷◌, ◌++◌, map, ℤ, pos, negsuc, replicate, Result}
 use Rattle.rules.specs.Vocabulary.{any, count, signed, bits_of, little, from_little, joined, fuelled, between}
 use Rattle.rules.specs.Lists.{op_of, commands, ends_once, placed, same_place, is_change, stands, any_from}
 use Rattle.rules.specs.Vp3.{row_of}
-use Rattle.rules.specs.Refusals.{number_of, bad_list, outside, place_outside, changes, too_many, moves, moved, verdict}
+use Rattle.rules.specs.Refusals.{number_of, bad_list, outside, place_outside, changes, too_many, moves, moved, verdict, answer_number}
 use Rattle.rules.specs.Files.{label_under}
 use Rattle.rules.specs.Jobs.{bad_tag, bad_length, follows, length_allowed, rows_of, unknown_kind, rows_in, content_then, field_then, fields_from, job_fields}
 use Rattle.rules.specs.Jobs.{fault_of, name_of, threads_in, commands_in, job_name, job_threads, job_commands, job_xs, job_ys, job_kinds, job_refusals}
-use Rattle.rules.specs.Jobs.{job_verdict, job_counts, import_answer, import_number, import_counts, job_name_told, field_of, row_of_cmd, thread_fields}
+use Rattle.rules.specs.Jobs.{job_verdict, job_counts, import_answer, import_counts, job_name_told, field_of, row_of_cmd, thread_fields}
 use Rattle.rules.specs.Jobs.{commands_then, command_fields, job_of, job_no_room, import_verdict}
 use Rattle.rules.specs.declared.Cmd.{Cmd}
-use Rattle.rules.specs.declared.ImportAnswer.{ImportAnswer}
+use Rattle.rules.specs.declared.JobCounts.{JobCounts}
+use Rattle.rules.specs.declared.Refusal.{Refusal}
 
 -- the number, the commands, the bytes of threads, and the name
-abbrev answer_told : ImportAnswer → List ℕ
-answer_told a = import_number a ∷ (import_counts a).commands ∷ (import_counts a).thread_bytes ∷ []
+abbrev answer_told : Result JobCounts Refusal → List ℕ
+answer_told a = answer_number a ∷ (import_counts a).commands ∷ (import_counts a).thread_bytes ∷ []
 
 abbrev told : List ℕ → List ℕ
 told job = answer_told (import_answer (job_verdict job) (job_counts job)) ++ job_name_told job
@@ -196,7 +197,7 @@ small =
 
 -- 11 counts each of the four buffers, and comes last
 abbrev rooms : List ℕ
-rooms = map import_number
+rooms = map answer_number
     (import_answer (import_verdict small 2 2 2 3) (job_counts small)
     ∷ import_answer (import_verdict small 1 2 2 3) (job_counts small)
     ∷ import_answer (import_verdict small 2 1 2 3) (job_counts small)
@@ -227,6 +228,6 @@ pub jobs-hold : JobsHold
 unfolding jobs any count signed bits_of little from_little joined fuelled between op_of commands ends_once placed same_place is_change stands any_from row_of
     number_of bad_list outside place_outside changes too_many moves moved verdict label_under bad_tag bad_length follows length_allowed rows_of unknown_kind
     rows_in content_then field_then fields_from job_fields fault_of name_of threads_in commands_in job_name job_threads job_commands job_xs job_ys job_kinds
-    job_refusals job_verdict job_counts import_answer import_number import_counts job_name_told field_of row_of_cmd thread_fields commands_then command_fields job_of
+    job_refusals job_verdict job_counts import_answer answer_number import_counts job_name_told field_of row_of_cmd thread_fields commands_then command_fields job_of
     job_no_room import_verdict
 jobs-hold = record { imported = refl; names = refl; filled = refl; room = refl; exported = refl }

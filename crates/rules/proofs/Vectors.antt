@@ -1,5 +1,5 @@
 -- Whole files that the Rust wrote and read, computed by the definitions: an edit of a definition is refused here.
-use Rattle.std.specs.Prelude.{◌≡◌, refl, List, [], ◌∷◌, ℕ, pos, negsuc, replicate}
+use Rattle.std.specs.Prelude.{◌≡◌, refl, List, [], ◌∷◌, ℕ, pos, negsuc, replicate, Some, Ok, Err}
 use Rattle.std.specs.Float.Ieee.{add, sub, mul, div, neg, lt, of_int, of_bits, round, to_bits}
 use Rattle.rules.specs.Answers.{points_after, start_of, places, run_of, runs, block_of, begun_after, blocks, point_total, block_total, cuts}
 use Rattle.rules.specs.Charts.{pec_chart, jef_chart, blank_icon}
@@ -25,10 +25,8 @@ use Rattle.rules.specs.Thumbnails.{at_least_one, lesser, floor_of, within, pixel
 use Rattle.rules.specs.Vocabulary.{between, all, any, count, keep, next, first_where, or_else, last_where, same_bytes, signed, bits_of, little, from_little, joined}
 use Rattle.rules.specs.Vocabulary.{digit_at, right, padded, fuelled}
 use Rattle.rules.specs.declared.Cmd.{Cmd}
-use Rattle.rules.specs.declared.Extension.TheVariants.{Of}
 use Rattle.rules.specs.declared.Format.TheVariants.{Pes, Pec, Dst, Exp, Jef}
 use Rattle.rules.specs.declared.Refusal.TheVariants.{FileTooShort}
-use Rattle.rules.specs.declared.Verdict.TheVariants.{Accepted, Refused}
 
 -- DST: the list with its threads, 542 bytes
 abbrev dst_list : List Cmd
@@ -194,8 +192,8 @@ pub vectors : (file_of Dst (0x42 ∷ 0x6C ∷ 0xC3 ∷ 0xBC ∷ 0x74 ∷ 0x65 �
     × ((runs_of Pec pec_written ≡ (3 ∷ 2 ∷ 3 ∷ []))
     × ((list_sewing pec_list ≡ pec_sewing)
     × ((file_sewing (places_of Pec pec_written) (runs_of Pec pec_written) (blocks_of Pec pec_written) ≡ pec_sewing)
-    × ((file_verdict (Of Dst) (replicate 511 0x20) ≡ Refused FileTooShort)
-    × ((file_verdict (Of Dst) (replicate 512 0x20) ≡ Accepted)
+    × ((file_verdict (Some Dst) (replicate 511 0x20) ≡ Err FileTooShort)
+    × ((file_verdict (Some Dst) (replicate 512 0x20) ≡ Ok tt)
     × (blocks_of Dst (replicate 512 0x20) ≡ [])))))))))))))))))
 unfolding points_after start_of places run_of runs block_of begun_after blocks point_total block_total cuts pec_chart jef_chart blank_icon half_to_even gap weighed distance no_nearer
     nearest nearest_index nearest_first choices pec_palette jef_palette same_color entry_of jef_nearest jef_choice jef_entries bit weigh dst_x dst_y under dst_record dst_first digit

@@ -1,6 +1,6 @@
 -- DST: 512 header bytes, then records of three.
 -- A port of src/formats/dst.rs and src/formats/read.rs of zigzag, changed.
-use Rattle.std.specs.Prelude.{ℕ, suc, ◌+◌, ◌-◌, ◌*◌, ◌/◌, ◌%◌, ◌^◌, Bool, true, false, ◌&&◌, List, [], ◌∷◌, ◌++◌, ℤ, pos, neg_ℤ, nat_abs, ◌+ℤ◌, ◌-ℤ◌, eqb, ltb, leb, length, take, drop, get_or, replicate}
+use Rattle.std.specs.Prelude.{ℕ, suc, ◌+◌, ◌-◌, ◌*◌, ◌/◌, ◌%◌, ◌^◌, Bool, true, false, ◌&&◌, List, [], ◌∷◌, ◌++◌, ℤ, pos, neg_ℤ, nat_abs, ◌+ℤ◌, ◌-ℤ◌, eqb, ltb, leb, length, take, drop, get_or, replicate, Some, None, Option}
 use Rattle.std.specs.Int.Signed.{lt_z, non_neg}
 use Rattle.std.specs.Int.Bits.{bit_and}
 use Rattle.rules.specs.Vocabulary.{pick, count, joined, right, padded}
@@ -17,8 +17,6 @@ use Rattle.rules.specs.declared.Op.TheVariants.{Stitch, Jump, Trim, ColorChange,
 use Rattle.rules.specs.declared.Record.{Record}
 use Rattle.rules.specs.declared.Record.TheVariants.{StitchBy, JumpBy, ChangeBy, Finish}
 use Rattle.rules.specs.declared.Refusal.TheVariants.{FileTooShort}
-use Rattle.rules.specs.declared.Slot.{Slot}
-use Rattle.rules.specs.declared.Slot.TheVariants.{Empty, Thread}
 
 -- ---- reading: records
 
@@ -105,15 +103,15 @@ hex_pair a b =
     (pick (eqb a 0x2B) (hex_digit b) (pick (ltb (hex_digit a) 16) (16 * hex_digit a + hex_digit b) 256))
     256
 
-unfoldable pub hex_color : ℕ → ℕ → ℕ → Slot
-hex_color r g b = pick (ltb r 256 && (ltb g 256 && ltb b 256)) (Thread (color r g b)) Empty
+unfoldable pub hex_color : ℕ → ℕ → ℕ → Option Color
+hex_color r g b = pick (ltb r 256 && (ltb g 256 && ltb b 256)) (Some (color r g b)) None
 
 -- exactly six bytes as three pairs
-unfoldable pub six_digits : List ℕ → Slot
+unfoldable pub six_digits : List ℕ → Option Color
 six_digits s =
     pick (eqb (length s) 6)
     (hex_color (hex_pair (get_or s 0 0) (get_or s 1 0)) (hex_pair (get_or s 2 0) (get_or s 3 0)) (hex_pair (get_or s 4 0) (get_or s 5 0)))
-    Empty
+    None
 
 unfoldable pub drop_hashes : List ℕ → List ℕ
 drop_hashes [] = []
@@ -123,13 +121,13 @@ unfoldable pub before_comma : List ℕ → List ℕ
 before_comma [] = []
 before_comma (b ∷ s) = pick (eqb b 0x2C) [] (b ∷ before_comma s)
 
-unfoldable pub line_color : List ℕ → Slot
-line_color l = pick (begins (0x54 ∷ 0x43 ∷ 0x3A ∷ []) l) (six_digits (drop_hashes (trimmed (before_comma (drop 3 l))))) Empty
+unfoldable pub line_color : List ℕ → Option Color
+line_color l = pick (begins (0x54 ∷ 0x43 ∷ 0x3A ∷ []) l) (six_digits (drop_hashes (trimmed (before_comma (drop 3 l))))) None
 
 -- A line that doesn't fit gives no colour.
-unfoldable pub add_color : Slot → List Color → List Color
-add_color Empty cs = cs
-add_color (Thread c) cs = c ∷ cs
+unfoldable pub add_color : Option Color → List Color → List Color
+add_color None cs = cs
+add_color (Some c) cs = c ∷ cs
 
 unfoldable pub line_colors : List (List ℕ) → List Color
 line_colors [] = []

@@ -1,9 +1,9 @@
 -- Files: what is written for a list, and what is read of a file: records, label, stored colours, refusals.
 -- A port of src/formats/read.rs of zigzag, changed.
-use Rattle.std.specs.Prelude.{ℕ, ◌+◌, ◌*◌, ◌%◌, Bool, true, ◌||◌, List, [], ◌∷◌, ◌++◌, ℤ, pos, ltb, length, drop, get_or}
+use Rattle.std.specs.Prelude.{ℕ, ◌+◌, ◌*◌, ◌%◌, Bool, true, ◌||◌, List, [], ◌∷◌, ◌++◌, ℤ, pos, ltb, length, drop, get_or, Some, None, Ok, Err, Option, Result, ⊤}
 use Rattle.rules.specs.Limits.{longest_file}
 use Rattle.rules.specs.Lists.{commands}
-use Rattle.rules.specs.Refusals.{number_of, verdict, list_refusals}
+use Rattle.rules.specs.Refusals.{verdict, list_refusals}
 use Rattle.rules.specs.Charts.{color}
 use Rattle.rules.specs.Records.{Event}
 use Rattle.rules.specs.Layout.{Stored, nothing, shade, charted}
@@ -12,17 +12,10 @@ use Rattle.rules.specs.Answers.{places, runs, blocks, point_total, block_total}
 use Rattle.rules.specs.declared.Cmd.{Cmd}
 use Rattle.rules.specs.declared.Color.{Color}
 use Rattle.rules.specs.declared.Counts.{Counts}
-use Rattle.rules.specs.declared.Extension.{Extension}
-use Rattle.rules.specs.declared.Extension.TheVariants.{Of, Unknown}
 use Rattle.rules.specs.declared.Format.{Format}
-use Rattle.rules.specs.declared.ReadAnswer.{ReadAnswer}
-use Rattle.rules.specs.declared.ReadAnswer.TheVariants.{Read, Unread}
 use Rattle.rules.specs.declared.Refusal.{Refusal}
 use Rattle.rules.specs.declared.Refusal.TheVariants.{UnknownExtension, FileTooLong, BufferTooShort}
-use Rattle.rules.specs.declared.Verdict.{Verdict}
-use Rattle.rules.specs.declared.Verdict.TheVariants.{Accepted, Refused}
-use Rattle.rules.specs.declared.WriteAnswer.{WriteAnswer}
-use Rattle.rules.specs.declared.WriteAnswer.TheVariants.{Written, Unwritten}
+use Rattle.rules.specs.declared.Written.{Written}
 
 -- ---- writing
 
@@ -87,100 +80,90 @@ unfoldable pub no_room : Format → List ℕ → ℕ → ℕ → ℕ → Bool
 no_room f s n m k = ltb n (length (places_of f s)) || (ltb m (length (runs_of f s)) || ltb k (length (blocks_of f s)))
 
 -- what the checks of a read say of the file alone, as the label's call meets them, and with the buffers
-unfoldable pub file_verdict : Extension → List ℕ → Verdict
-file_verdict Unknown s = verdict ((UnknownExtension, true) ∷ [])
-file_verdict (Of f) s = verdict (file_refusals f s)
+unfoldable pub file_verdict : Option Format → List ℕ → Result ⊤ Refusal
+file_verdict None s = verdict ((UnknownExtension, true) ∷ [])
+file_verdict (Some f) s = verdict (file_refusals f s)
 
-unfoldable pub read_verdict : Extension → List ℕ → ℕ → ℕ → ℕ → Verdict
-read_verdict Unknown s n m k = verdict ((UnknownExtension, true) ∷ [])
-read_verdict (Of f) s n m k = verdict (file_refusals f s ++ (BufferTooShort, no_room f s n m k) ∷ [])
+unfoldable pub read_verdict : Option Format → List ℕ → ℕ → ℕ → ℕ → Result ⊤ Refusal
+read_verdict None s n m k = verdict ((UnknownExtension, true) ∷ [])
+read_verdict (Some f) s n m k = verdict (file_refusals f s ++ (BufferTooShort, no_room f s n m k) ∷ [])
 
 -- ---- reading: what the calls give back
 
 -- the three answers and the cuts by extension
-unfoldable pub places_told : Extension → List ℕ → List ℤ
-places_told Unknown s = []
-places_told (Of f) s = places_of f s
+unfoldable pub places_told : Option Format → List ℕ → List ℤ
+places_told None s = []
+places_told (Some f) s = places_of f s
 
-unfoldable pub runs_told : Extension → List ℕ → List ℕ
-runs_told Unknown s = []
-runs_told (Of f) s = runs_of f s
+unfoldable pub runs_told : Option Format → List ℕ → List ℕ
+runs_told None s = []
+runs_told (Some f) s = runs_of f s
 
-unfoldable pub blocks_told : Extension → List ℕ → List ℕ
-blocks_told Unknown s = []
-blocks_told (Of f) s = blocks_of f s
+unfoldable pub blocks_told : Option Format → List ℕ → List ℕ
+blocks_told None s = []
+blocks_told (Some f) s = blocks_of f s
 
-unfoldable pub cuts_told : Extension → List ℕ → ℕ
-cuts_told Unknown s = 0
-cuts_told (Of f) s = cuts_of f s
+unfoldable pub cuts_told : Option Format → List ℕ → ℕ
+cuts_told None s = 0
+cuts_told (Some f) s = cuts_of f s
 
 -- points, runs and blocks listed, counted from the three answers, and the cuts
 unfoldable pub counts_of : List ℤ → List ℕ → List ℕ → ℕ → Counts
 counts_of ps rs bs n = record { points = point_total ps; runs = length rs; blocks = block_total bs; cuts = n }
 
 -- what a read answers under a verdict
-unfoldable pub read_answer : Verdict → Counts → ReadAnswer
-read_answer Accepted c = Read c
-read_answer (Refused r) c = Unread r
+unfoldable pub read_answer : Result ⊤ Refusal → Counts → Result Counts Refusal
+read_answer (Ok u) c = Ok c
+read_answer (Err r) c = Err r
 
--- A refusal gives its number and zero counts; without one the number is 0.
-unfoldable pub read_number : ReadAnswer → ℕ
-read_number (Read c) = 0
-read_number (Unread r) = number_of r
-
-unfoldable pub read_counts : ReadAnswer → Counts
-read_counts (Read c) = c
-read_counts (Unread r) = record { points = 0; runs = 0; blocks = 0; cuts = 0 }
+unfoldable pub read_counts : Result Counts Refusal → Counts
+read_counts (Ok c) = c
+read_counts (Err r) = record { points = 0; runs = 0; blocks = 0; cuts = 0 }
 
 -- a caller-provided buffer after the call: the answer at its front, and cells past the answer stay; a refusal writes nothing
-unfoldable pub filled : {A : Type 0} → Verdict → List A → List A → List A
-filled Accepted answer l = answer ++ drop (length answer) l
-filled (Refused r) answer l = l
+unfoldable pub filled : {A : Type 0} → Result ⊤ Refusal → List A → List A → List A
+filled (Ok u) answer l = answer ++ drop (length answer) l
+filled (Err r) answer l = l
 
 -- ---- writing: what the call gives back
 
 -- the file and the distance by extension
-unfoldable pub file_told : Extension → List ℕ → List Cmd → List ℕ → List ℕ
-file_told Unknown name cs threads = []
-file_told (Of f) name cs threads = file_of f name cs threads
+unfoldable pub file_told : Option Format → List ℕ → List Cmd → List ℕ → List ℕ
+file_told None name cs threads = []
+file_told (Some f) name cs threads = file_of f name cs threads
 
-unfoldable pub distance_told : Extension → List ℕ → ℕ
-distance_told Unknown threads = 0
-distance_told (Of f) threads = distance_of f threads
+unfoldable pub distance_told : Option Format → List ℕ → ℕ
+distance_told None threads = 0
+distance_told (Some f) threads = distance_of f threads
 
 -- Writing checks 1, 6, 7, 8, 9, 10, 11; n is the length of the caller-provided buffer.
-unfoldable pub write_verdict : Extension → List ℕ → List ℤ → List ℤ → List ℕ → List ℕ → ℕ → Verdict
-write_verdict Unknown name xs ys kinds threads n = verdict ((UnknownExtension, true) ∷ [])
-write_verdict (Of f) name xs ys kinds threads n = verdict
+unfoldable pub write_verdict : Option Format → List ℕ → List ℤ → List ℤ → List ℕ → List ℕ → ℕ → Result ⊤ Refusal
+write_verdict None name xs ys kinds threads n = verdict ((UnknownExtension, true) ∷ [])
+write_verdict (Some f) name xs ys kinds threads n = verdict
     (list_refusals f xs ys kinds threads
     ++ (BufferTooShort, ltb n (length (file_of f name (commands xs ys kinds) threads)))
     ∷ [])
 
 -- what a write with a distance answers under a verdict: the length of the file, and the distance
-unfoldable pub write_answer : ℕ → Verdict → ℕ → WriteAnswer
-write_answer far Accepted len = Written len far
-write_answer far (Refused r) len = Unwritten r
+unfoldable pub write_answer : ℕ → Result ⊤ Refusal → ℕ → Result Written Refusal
+write_answer far (Ok u) len = Ok (record { len = len; distance = far })
+write_answer far (Err r) len = Err r
 
--- the number, 0 without a refusal, and the length and the distance, 0 with one
-unfoldable pub write_number : WriteAnswer → ℕ
-write_number (Written len far) = 0
-write_number (Unwritten r) = number_of r
+unfoldable pub write_length : Result Written Refusal → ℕ
+write_length (Ok w) = w.len
+write_length (Err r) = 0
 
-unfoldable pub write_length : WriteAnswer → ℕ
-write_length (Written len far) = len
-write_length (Unwritten r) = 0
-
-unfoldable pub write_distance : WriteAnswer → ℕ
-write_distance (Written len far) = far
-write_distance (Unwritten r) = 0
+unfoldable pub write_distance : Result Written Refusal → ℕ
+write_distance (Ok w) = w.distance
+write_distance (Err r) = 0
 
 -- ---- the label
 
 -- the label by its own call, which meets every refusal of reading but 11: empty under each
-unfoldable pub label_under : Verdict → List ℕ → List ℕ
-label_under Accepted label = label
-label_under (Refused r) label = []
+unfoldable pub label_under : Result ⊤ Refusal → List ℕ → List ℕ
+label_under (Ok u) label = label
+label_under (Err r) label = []
 
-unfoldable pub label_told : Extension → List ℕ → List ℕ
-label_told Unknown s = []
-label_told (Of f) s = label_under (file_verdict (Of f) s) (label_of f s)
+unfoldable pub label_told : Option Format → List ℕ → List ℕ
+label_told None s = []
+label_told (Some f) s = label_under (file_verdict (Some f) s) (label_of f s)

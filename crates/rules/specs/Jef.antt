@@ -1,6 +1,6 @@
 -- JEF: a header, two tables of threads, then records as in EXP.
 -- A port of src/formats/more.rs of zigzag, changed.
-use Rattle.std.specs.Prelude.{ℕ, ◌+◌, ◌*◌, ◌/◌, ◌%◌, min, true, ◌&&◌, List, [], ◌∷◌, ◌++◌, map, ℤ, pos, negsuc, neg_ℤ, nat_abs, ◌-ℤ◌, ltb, leb, length, drop, replicate}
+use Rattle.std.specs.Prelude.{ℕ, ◌+◌, ◌*◌, ◌/◌, ◌%◌, min, true, ◌&&◌, List, [], ◌∷◌, ◌++◌, map, ℤ, pos, negsuc, neg_ℤ, nat_abs, ◌-ℤ◌, ltb, leb, length, drop, replicate, None}
 use Rattle.std.specs.Int.Signed.{le_z}
 use Rattle.rules.specs.Vocabulary.{pick, bits_of, little, joined}
 use Rattle.rules.specs.Lists.{op_of, written, width, height, threads_of}
@@ -15,7 +15,6 @@ use Rattle.rules.specs.declared.Cmd.{Cmd}
 use Rattle.rules.specs.declared.Color.{Color}
 use Rattle.rules.specs.declared.Op.{Op}
 use Rattle.rules.specs.declared.Op.TheVariants.{Stitch, Jump, Trim, ColorChange, End}
-use Rattle.rules.specs.declared.Previous.TheVariants.{First}
 use Rattle.rules.specs.declared.Refusal.TheVariants.{FileTooShort}
 
 -- ---- reading
@@ -88,7 +87,7 @@ or_one [] = 1 ∷ []
 or_one (e ∷ es) = e ∷ es
 
 unfoldable pub jef_table : List Color → List ℕ
-jef_table threads = or_one (jef_entries First threads)
+jef_table threads = or_one (jef_entries None threads)
 
 -- how far off the threads are, by the entries written in the table
 unfoldable pub jef_distance : List Color → ℕ

@@ -1,35 +1,29 @@
 -- Jobs: a name, threads and a list of commands, handed over as tagged fields; imported and exported.
-use Rattle.std.specs.Prelude.{ℕ, suc, ◌%◌, Bool, ◌&&◌, ◌||◌, not, List, [], ◌∷◌, ◌++◌, map, ltb, leb, eqb, ℤ, length, take, drop}
+use Rattle.std.specs.Prelude.{ℕ, suc, ◌%◌, Bool, ◌&&◌, ◌||◌, not, List, [], ◌∷◌, ◌++◌, map, ltb, leb, eqb, ℤ, length, take, drop, Ok, Err, Result, ⊤}
 use Rattle.rules.specs.Vocabulary.{pick, any, signed, bits_of, little, from_little, joined, fuelled}
 use Rattle.rules.specs.Limits.{longest_file, longest_name, field_commands}
 use Rattle.rules.specs.Lists.{commands}
 use Rattle.rules.specs.Vp3.{row_of}
-use Rattle.rules.specs.Refusals.{number_of, verdict, command_refusals}
+use Rattle.rules.specs.Refusals.{verdict, command_refusals}
 use Rattle.rules.specs.Files.{label_under}
 use Rattle.rules.specs.declared.Cmd.{Cmd}
-use Rattle.rules.specs.declared.ExportAnswer.{ExportAnswer}
-use Rattle.rules.specs.declared.ExportAnswer.TheVariants.{Exported, NotExported}
-use Rattle.rules.specs.declared.ImportAnswer.{ImportAnswer}
-use Rattle.rules.specs.declared.ImportAnswer.TheVariants.{Imported, NotImported}
 use Rattle.rules.specs.declared.JobCounts.{JobCounts}
 use Rattle.rules.specs.declared.Refusal.{Refusal}
 use Rattle.rules.specs.declared.Refusal.TheVariants.{FileTooLong, BufferTooShort, BadTag, BadLength}
-use Rattle.rules.specs.declared.Verdict.{Verdict}
-use Rattle.rules.specs.declared.Verdict.TheVariants.{Accepted, Refused}
 
 -- ---- the fields of a job, in order of place
 
 -- Tag and content of each field; then how they end: with the job, or at the first fault.
 pub data Fields : Type 0 where
-  ended : Verdict → Fields
+  ended : Result ⊤ Refusal → Fields
   field : ℕ → List ℕ → Fields → Fields
 
 -- 13: an unknown tag or kind, a tag out of order, or no name; 14: a field that passes the end, or a length that its tag does not have
 unfoldable pub bad_tag : Fields
-bad_tag = ended (Refused BadTag)
+bad_tag = ended (Err BadTag)
 
 unfoldable pub bad_length : Fields
-bad_length = ended (Refused BadLength)
+bad_length = ended (Err BadLength)
 
 -- Tag 1 is the name (once, first); tag 2, a thread, comes before tag 3, commands. `before` is the tag of the field before, 0 at the front.
 unfoldable pub follows : ℕ → ℕ → Bool
@@ -66,7 +60,7 @@ content_then go tag len s =
 
 -- A tag byte, a two-byte length low byte first, the content; a job that ends at once has no name.
 unfoldable pub field_then : (ℕ → List ℕ → Fields) → ℕ → List ℕ → Fields
-field_then go before [] = pick (eqb before 0) bad_tag (ended Accepted)
+field_then go before [] = pick (eqb before 0) bad_tag (ended (Ok tt))
 field_then go before (tag ∷ s) =
     pick (not (follows before tag)) bad_tag
     (pick (ltb (length s) 2) bad_length
@@ -77,13 +71,13 @@ unfoldable pub fields_from : ℕ → List ℕ → Fields
 fields_from before s =
     fuelled
     (λ (go : ℕ × List ℕ → Fields) (p : ℕ × List ℕ). field_then (λ t r. go (t, r)) p.0 p.1)
-    (ended Accepted) (suc (length s)) (before, s)
+    (ended (Ok tt)) (suc (length s)) (before, s)
 
 unfoldable pub job_fields : List ℕ → Fields
 job_fields job = fields_from 0 job
 
 -- the first fault, in order of place
-unfoldable pub fault_of : Fields → Verdict
+unfoldable pub fault_of : Fields → Result ⊤ Refusal
 fault_of (ended v) = v
 fault_of (field tag content fs) = fault_of fs
 
@@ -139,37 +133,32 @@ job_no_room job xs ys kinds threads =
     || ltb threads (length (job_threads job))))
 
 -- what the checks say of the job alone, as the name's call meets them, and with the buffers
-unfoldable pub job_verdict : List ℕ → Verdict
+unfoldable pub job_verdict : List ℕ → Result ⊤ Refusal
 job_verdict job = verdict (job_refusals job)
 
-unfoldable pub import_verdict : List ℕ → ℕ → ℕ → ℕ → ℕ → Verdict
+unfoldable pub import_verdict : List ℕ → ℕ → ℕ → ℕ → ℕ → Result ⊤ Refusal
 import_verdict job xs ys kinds threads = verdict (job_refusals job ++ (BufferTooShort, job_no_room job xs ys kinds threads) ∷ [])
 
 unfoldable pub job_counts : List ℕ → JobCounts
 job_counts job = record { commands = length (job_commands job); thread_bytes = length (job_threads job) }
 
 -- what an import answers under a verdict
-unfoldable pub import_answer : Verdict → JobCounts → ImportAnswer
-import_answer Accepted c = Imported c
-import_answer (Refused r) c = NotImported r
+unfoldable pub import_answer : Result ⊤ Refusal → JobCounts → Result JobCounts Refusal
+import_answer (Ok u) c = Ok c
+import_answer (Err r) c = Err r
 
--- the number, 0 without a refusal, and the counts, 0 with one
-unfoldable pub import_number : ImportAnswer → ℕ
-import_number (Imported c) = 0
-import_number (NotImported r) = number_of r
-
-unfoldable pub import_counts : ImportAnswer → JobCounts
-import_counts (Imported c) = c
-import_counts (NotImported r) = record { commands = 0; thread_bytes = 0 }
+unfoldable pub import_counts : Result JobCounts Refusal → JobCounts
+import_counts (Ok c) = c
+import_counts (Err r) = record { commands = 0; thread_bytes = 0 }
 
 -- the name by its own call, which meets every refusal of importing but 11: empty under each
 unfoldable pub job_name_told : List ℕ → List ℕ
 job_name_told job = label_under (job_verdict job) (job_name job)
 
 -- where it stands, behind its tag and length; 0 under a refusal
-unfoldable pub job_name_start : Verdict → ℕ
-job_name_start Accepted = 3
-job_name_start (Refused r) = 0
+unfoldable pub job_name_start : Result ⊤ Refusal → ℕ
+job_name_start (Ok u) = 3
+job_name_start (Err r) = 0
 
 -- ---- exporting
 
@@ -201,22 +190,17 @@ job_of name cs threads = field_of 1 name ++ thread_fields threads ++ command_fie
 unfoldable pub export_refusals : List ℕ → List ℤ → List ℤ → List ℕ → List ℕ → List (Refusal × Bool)
 export_refusals name xs ys kinds threads = (BadLength, ltb longest_name (length name)) ∷ command_refusals xs ys kinds threads
 
-unfoldable pub export_verdict : List ℕ → List ℤ → List ℤ → List ℕ → List ℕ → ℕ → Verdict
+unfoldable pub export_verdict : List ℕ → List ℤ → List ℤ → List ℕ → List ℕ → ℕ → Result ⊤ Refusal
 export_verdict name xs ys kinds threads n = verdict
     (export_refusals name xs ys kinds threads
     ++ (BufferTooShort, ltb n (length (job_of name (commands xs ys kinds) threads)))
     ∷ [])
 
 -- what an export answers under a verdict: the length of the job
-unfoldable pub export_answer : Verdict → ℕ → ExportAnswer
-export_answer Accepted len = Exported len
-export_answer (Refused r) len = NotExported r
+unfoldable pub export_answer : Result ⊤ Refusal → ℕ → Result ℕ Refusal
+export_answer (Ok u) len = Ok len
+export_answer (Err r) len = Err r
 
--- the number, 0 without a refusal, and the length, 0 with one
-unfoldable pub export_number : ExportAnswer → ℕ
-export_number (Exported len) = 0
-export_number (NotExported r) = number_of r
-
-unfoldable pub export_length : ExportAnswer → ℕ
-export_length (Exported len) = len
-export_length (NotExported r) = 0
+unfoldable pub export_length : Result ℕ Refusal → ℕ
+export_length (Ok len) = len
+export_length (Err r) = 0

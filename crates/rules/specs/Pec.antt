@@ -1,6 +1,6 @@
 -- PEC: label at 3, colour count less one at 48, stitches at 528.
 -- A port of src/formats/pes.rs and src/formats/read.rs of zigzag, changed.
-use Rattle.std.specs.Prelude.{ℕ, ◌+◌, ◌-◌, ◌*◌, ◌/◌, ◌%◌, min, Bool, true, false, not, ◌&&◌, ◌||◌, List, [], ◌∷◌, ◌++◌, map, ℤ, pos, neg_ℤ, ◌-ℤ◌, eqb, ltb, leb, length, take, drop, get_or, set, replicate}
+use Rattle.std.specs.Prelude.{ℕ, ◌+◌, ◌-◌, ◌*◌, ◌/◌, ◌%◌, min, Bool, true, false, not, ◌&&◌, ◌||◌, List, [], ◌∷◌, ◌++◌, map, ℤ, pos, neg_ℤ, ◌-ℤ◌, eqb, ltb, leb, length, take, drop, get_or, set, replicate, Some, None, Option}
 use Rattle.rules.specs.Vocabulary.{pick, eq_z, between, any, signed, bits_of, little, joined, padded}
 use Rattle.rules.specs.Limits.{most_changes}
 use Rattle.rules.specs.Lists.{op_of, width, height, threads_of, pec_name}
@@ -13,15 +13,11 @@ use Rattle.rules.specs.Answers.{cuts}
 use Rattle.rules.specs.Thumbnails.{icons}
 use Rattle.rules.specs.declared.Cmd.{Cmd}
 use Rattle.rules.specs.declared.Color.{Color}
-use Rattle.rules.specs.declared.Found.{Found}
-use Rattle.rules.specs.declared.Found.TheVariants.{At, Missing}
 use Rattle.rules.specs.declared.Op.{Op}
 use Rattle.rules.specs.declared.Op.TheVariants.{Stitch, Jump, Trim, ColorChange, End}
 use Rattle.rules.specs.declared.Record.{Record}
 use Rattle.rules.specs.declared.Record.TheVariants.{StitchBy, JumpBy, ChangeBy, Finish}
 use Rattle.rules.specs.declared.Refusal.TheVariants.{FileTooShort}
-use Rattle.rules.specs.declared.Slot.{Slot}
-use Rattle.rules.specs.declared.Slot.TheVariants.{Empty, Thread}
 
 -- ---- reading: records
 
@@ -141,26 +137,26 @@ distinct seen (t ∷ ts) = pick (any (same_color t) seen) (distinct seen ts) (t 
 
 -- the entries that are free, and the threads given to the others
 pub record Given : Type 0 where
-  pub free : List Slot
-  pub chart : List Slot
+  pub free : List (Option Color)
+  pub chart : List (Option Color)
 
 -- Each distinct thread gets the nearest free entry as its own. Past 64 distinct threads none is free.
-unfoldable pub give : Found → Color → Given → Given
-give (At i) t g = record { free = set g.free i Empty; chart = set g.chart i (Thread t) }
-give Missing t g = g
+unfoldable pub give : Option ℕ → Color → Given → Given
+give (Some i) t g = record { free = set g.free i None; chart = set g.chart i (Some t) }
+give None t g = g
 
 unfoldable pub given_to : Given → List Color → Given
 given_to g [] = g
 given_to g (t ∷ ts) = given_to (give (nearest_index t g.free) t g) ts
 
-unfoldable pub found_or : ℕ → Found → ℕ
-found_or d (At i) = i
-found_or d Missing = d
+unfoldable pub found_or : ℕ → Option ℕ → ℕ
+found_or d (Some i) = i
+found_or d None = d
 
 -- then every thread is mapped to the nearest of those
 unfoldable pub unique_palette : List Color → List ℕ
 unique_palette threads =
-    let g : Given = given_to (record { free = pec_palette; chart = replicate 65 Empty }) (distinct [] threads) in
+    let g : Given = given_to (record { free = pec_palette; chart = replicate 65 None }) (distinct [] threads) in
     map (λ (t : Color). found_or 0 (nearest_index t g.chart)) threads
 
 -- how far off the threads are, by the entries written in the part

@@ -1,18 +1,14 @@
 -- Refusals: their numbers, the conditions by whoever made the list, and the extension.
-use Rattle.std.specs.Prelude.{ℕ, ◌+◌, ◌/◌, ◌%◌, Bool, ◌&&◌, ◌||◌, not, List, [], ◌∷◌, ◌++◌, map, ltb, leb, eqb, ℤ, pos, ◌-ℤ◌, length}
+use Rattle.std.specs.Prelude.{ℕ, ◌+◌, ◌/◌, ◌%◌, Bool, ◌&&◌, ◌||◌, not, List, [], ◌∷◌, ◌++◌, map, ltb, leb, eqb, ℤ, pos, ◌-ℤ◌, length, Some, None, Ok, Err, Option, Result, ⊤}
 use Rattle.rules.specs.Vocabulary.{pick, between, any, count, same_bytes}
 use Rattle.rules.specs.Limits.{most_commands, most_changes, most_threads}
 use Rattle.rules.specs.Lists.{op_of, commands, ends_once, placed, same_place, is_change, stands, any_from}
 use Rattle.rules.specs.Formats.{layout_of, formats}
 use Rattle.rules.specs.declared.Cmd.{Cmd}
 use Rattle.rules.specs.declared.Format.{Format}
-use Rattle.rules.specs.declared.Extension.{Extension}
-use Rattle.rules.specs.declared.Extension.TheVariants.{Of, Unknown}
 use Rattle.rules.specs.declared.Refusal.{Refusal}
 use Rattle.rules.specs.declared.Refusal.TheVariants.{UnknownExtension, FileTooLong, BadOpening, FileTooShort, StartBelowZero, BadList, PlaceOutside, TooMany, Moved}
 use Rattle.rules.specs.declared.Refusal.TheVariants.{StepTooLong, BufferTooShort, OutOfRange, BadTag, BadLength}
-use Rattle.rules.specs.declared.Verdict.{Verdict}
-use Rattle.rules.specs.declared.Verdict.TheVariants.{Accepted, Refused}
 
 -- the number of a refusal
 unfoldable pub number_of : Refusal → ℕ
@@ -31,6 +27,11 @@ number_of OutOfRange = 12
 number_of BadTag = 13
 number_of BadLength = 14
 
+-- the number of an answer, 0 without a refusal
+unfoldable pub answer_number : {A : Type 0} → Result A Refusal → ℕ
+answer_number (Ok a) = 0
+answer_number (Err r) = number_of r
+
 -- An extension is compared without regard to ASCII case.
 unfoldable pub lower : ℕ → ℕ
 lower b = pick (leb 0x41 b && leb b 0x5A) (b + 0x20) b
@@ -39,11 +40,11 @@ unfoldable pub named : List ℕ → List ℕ → Bool
 named ext name = same_bytes (map lower ext) name
 
 -- 1: an extension that none of the formats has
-unfoldable pub named_in : List Format → List ℕ → Extension
-named_in [] ext = Unknown
-named_in (f ∷ fs) ext = pick (named ext (layout_of f).extension) (Of f) (named_in fs ext)
+unfoldable pub named_in : List Format → List ℕ → Option Format
+named_in [] ext = None
+named_in (f ∷ fs) ext = pick (named ext (layout_of f).extension) (Some f) (named_in fs ext)
 
-unfoldable pub extension_of : List ℕ → Extension
+unfoldable pub extension_of : List ℕ → Option Format
 extension_of ext = named_in formats ext
 
 -- 6: empty, over 65,535 commands, x, y and kind slices of unequal length, a kind over 4, or the end missing, early or repeated
@@ -98,9 +99,9 @@ unfoldable pub step_too_long : Format → List Cmd → Bool
 step_too_long f cs = any_from (steps_past f) (pos 0) (pos 0) cs
 
 -- A number comes if its condition holds and no earlier one's does, and otherwise not.
-unfoldable pub verdict : List (Refusal × Bool) → Verdict
-verdict [] = Accepted
-verdict (c ∷ cs) = pick c.1 (Refused c.0) (verdict cs)
+unfoldable pub verdict : List (Refusal × Bool) → Result ⊤ Refusal
+verdict [] = Ok tt
+verdict (c ∷ cs) = pick c.1 (Err c.0) (verdict cs)
 
 -- 6 to 9, each over the whole list, whatever the format
 abbrev pub command_refusals : List ℤ → List ℤ → List ℕ → List ℕ → List (Refusal × Bool)
@@ -116,9 +117,9 @@ unfoldable pub list_refusals : Format → List ℤ → List ℤ → List ℕ →
 list_refusals f xs ys kinds threads = command_refusals xs ys kinds threads ++ (StepTooLong, step_too_long f (commands xs ys kinds)) ∷ []
 
 -- A list with its threads is accepted by 6 to 9 if none of them holds.
-unfoldable pub command_verdict : List ℤ → List ℤ → List ℕ → List ℕ → Verdict
+unfoldable pub command_verdict : List ℤ → List ℤ → List ℕ → List ℕ → Result ⊤ Refusal
 command_verdict xs ys kinds threads = verdict (command_refusals xs ys kinds threads)
 
 -- A list with its threads is accepted for a format if none of 6 to 10 holds of them.
-unfoldable pub list_verdict : Format → List ℤ → List ℤ → List ℕ → List ℕ → Verdict
+unfoldable pub list_verdict : Format → List ℤ → List ℤ → List ℕ → List ℕ → Result ⊤ Refusal
 list_verdict f xs ys kinds threads = verdict (list_refusals f xs ys kinds threads)

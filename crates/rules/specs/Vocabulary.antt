@@ -1,8 +1,6 @@
 -- What the definitions of every topic use: tests, numbers in bytes and in text, searches.
-use Rattle.std.specs.Prelude.{ℕ, zero, suc, ◌+◌, ◌-◌, ◌*◌, ◌/◌, ◌%◌, ◌^◌, Bool, true, false, ◌&&◌, ◌||◌, List, [], ◌∷◌, ◌++◌, ltb, eqb, ℤ, pos, negsuc, length, replicate}
+use Rattle.std.specs.Prelude.{ℕ, zero, suc, ◌+◌, ◌-◌, ◌*◌, ◌/◌, ◌%◌, ◌^◌, Bool, true, false, ◌&&◌, ◌||◌, List, [], ◌∷◌, ◌++◌, ltb, eqb, ℤ, pos, negsuc, length, replicate, Some, None, Option}
 use Rattle.std.specs.Int.Signed.{le_z}
-use Rattle.rules.specs.declared.Found.{Found}
-use Rattle.rules.specs.declared.Found.TheVariants.{At, Missing}
 
 -- if-then-else
 abbrev pub pick {ℓ} : {X : Type ℓ} → Bool → X → X → X
@@ -38,24 +36,24 @@ keep p [] = []
 keep p (x ∷ xs) = pick (p x) (x ∷ keep p xs) (keep p xs)
 
 -- one place further on
-unfoldable pub next : Found → Found
-next (At i) = At (suc i)
-next Missing = Missing
+unfoldable pub next : Option ℕ → Option ℕ
+next (Some i) = Some (suc i)
+next None = None
 
 -- the first place whose element passes the test p
-unfoldable pub first_where : {A : Type 0} → (A → Bool) → List A → Found
-first_where p [] = Missing
-first_where p (x ∷ xs) = pick (p x) (At 0) (next (first_where p xs))
+unfoldable pub first_where : {A : Type 0} → (A → Bool) → List A → Option ℕ
+first_where p [] = None
+first_where p (x ∷ xs) = pick (p x) (Some 0) (next (first_where p xs))
 
 -- the one found, or else the other
-unfoldable pub or_else : Found → Found → Found
-or_else (At i) other = At i
-or_else Missing other = other
+unfoldable pub or_else : Option ℕ → Option ℕ → Option ℕ
+or_else (Some i) other = Some i
+or_else None other = other
 
 -- the last place whose element passes the test p
-unfoldable pub last_where : {A : Type 0} → (A → Bool) → List A → Found
-last_where p [] = Missing
-last_where p (x ∷ xs) = or_else (next (last_where p xs)) (pick (p x) (At 0) Missing)
+unfoldable pub last_where : {A : Type 0} → (A → Bool) → List A → Option ℕ
+last_where p [] = None
+last_where p (x ∷ xs) = or_else (next (last_where p xs)) (pick (p x) (Some 0) None)
 
 -- two lists of bytes are equal
 unfoldable pub same_bytes : List ℕ → List ℕ → Bool

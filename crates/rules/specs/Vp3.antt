@@ -1,6 +1,6 @@
 -- VP3: parts with their lengths in front, colour blocks in a row, numbers with the high byte first.
 -- A port of src/formats/more.rs of zigzag, changed; the reader is new.
-use Rattle.std.specs.Prelude.{ℕ, zero, suc, ◌+◌, ◌-◌, ◌*◌, ◌/◌, ◌%◌, ◌^◌, min, Bool, true, false, ◌&&◌, ◌||◌, not, List, [], ◌∷◌, ◌++◌, map, ℤ, pos, negsuc, neg_ℤ, ◌+ℤ◌, ◌-ℤ◌, ◌*ℤ◌, ltb, eqb, length, take, drop, get_or}
+use Rattle.std.specs.Prelude.{ℕ, zero, suc, ◌+◌, ◌-◌, ◌*◌, ◌/◌, ◌%◌, ◌^◌, min, Bool, true, false, ◌&&◌, ◌||◌, not, List, [], ◌∷◌, ◌++◌, map, ℤ, pos, negsuc, neg_ℤ, ◌+ℤ◌, ◌-ℤ◌, ◌*ℤ◌, ltb, eqb, length, take, drop, get_or, Ok, Err, Result, ⊤}
 use Rattle.rules.specs.Vocabulary.{pick, between, signed, bits_of, joined, fuelled}
 use Rattle.rules.specs.Limits.{most_changes, furthest}
 use Rattle.rules.specs.Lists.{op_of, width, height, min_x, min_y, max_x, max_y, threads_of}
@@ -16,8 +16,6 @@ use Rattle.rules.specs.declared.Op.{Op}
 use Rattle.rules.specs.declared.Op.TheVariants.{Stitch, Jump, Trim, ColorChange, End}
 use Rattle.rules.specs.declared.Refusal.{Refusal}
 use Rattle.rules.specs.declared.Refusal.TheVariants.{BadOpening, FileTooShort, OutOfRange}
-use Rattle.rules.specs.declared.Verdict.{Verdict}
-use Rattle.rules.specs.declared.Verdict.TheVariants.{Accepted, Refused}
 
 -- v modulo 256 ^ n as n bytes, the high byte first
 unfoldable pub big : ℕ → ℕ → List ℕ
@@ -199,15 +197,15 @@ vp3_file cs threads = joined
 
 -- The colour blocks of a file in order: start, colour and stitch bytes of each; then how they end: by the stored count, or at a fault.
 pub data Blocks : Type 0 where
-  ended : Verdict → Blocks
+  ended : Result ⊤ Refusal → Blocks
   block : ℤ → ℤ → Color → List ℕ → Blocks → Blocks
 
 -- 4: a part that ends before or inside a fixed field; 12: a length that passes its part, a place or block start beyond 32 bits
 unfoldable pub cut : Blocks
-cut = ended (Refused FileTooShort)
+cut = ended (Err FileTooShort)
 
 unfoldable pub passed : Blocks
-passed = ended (Refused OutOfRange)
+passed = ended (Err OutOfRange)
 
 -- Throughout, s is what is left of a part: a fixed field of n bytes, and what follows it
 unfoldable pub fixed : ℕ → (List ℕ → List ℕ → Blocks) → List ℕ → Blocks
@@ -260,10 +258,10 @@ in_color_part n x y go s = fixed 18 (λ f. text (text (text (shifts n x y (color
 
 -- n colour blocks, the first from (x, y), each where the length of the one before ends
 unfoldable pub blocks_from : ℕ → ℤ → ℤ → List ℕ → Blocks
-blocks_from zero x y s = ended Accepted
+blocks_from zero x y s = ended (Ok tt)
 blocks_from (suc n) x y s = skip 3 (part 4 (λ p rest. in_color_part n x y (λ x' y'. blocks_from n x' y' rest) p)) s
 
--- 35 bytes: centre, three bytes, sizes; 24 bytes: 64 64, four numbers, `xx_p_p` 01 00; then the count
+-- 35 bytes: centre, three bytes, sizes; 24 bytes: 64 64, four numbers, `xxPP` 01 00; then the count
 unfoldable pub in_design_part : List ℕ → Blocks
 in_design_part s = skip 35 (text (skip 24 (text (fixed 2 (λ f. blocks_from (from_big f) (pos 0) (pos 0)))))) s
 
@@ -327,9 +325,9 @@ strays x y (jump dx dy ∷ es) = strays (x +ℤ dx) (y +ℤ dy) es
 strays x y (change dx dy ∷ es) = strays (x +ℤ dx) (y +ℤ dy) es
 
 -- the first fault, in order of place: a block's stitches come behind its fields, and before the next block's
-unfoldable pub fault_in : Blocks → Verdict
+unfoldable pub fault_in : Blocks → Result ⊤ Refusal
 fault_in (ended v) = v
-fault_in (block x y c bytes bs) = pick (strays x y (stitch_events bytes)) (Refused OutOfRange) (fault_in bs)
+fault_in (block x y c bytes bs) = pick (strays x y (stitch_events bytes)) (Err OutOfRange) (fault_in bs)
 
 unfoldable pub colors_in : Blocks → List Color
 colors_in (ended v) = []
@@ -338,9 +336,9 @@ colors_in (block x y c bytes bs) = c ∷ colors_in bs
 -- ---- the format
 
 -- the row of a fault in the table of refusals
-unfoldable pub row_of : Verdict → List (Refusal × Bool)
-row_of Accepted = []
-row_of (Refused r) = (r, true) ∷ []
+unfoldable pub row_of : Result ⊤ Refusal → List (Refusal × Bool)
+row_of (Ok u) = []
+row_of (Err r) = (r, true) ∷ []
 
 -- no step limit beyond the place range
 abbrev pub vp3_layout : Layout

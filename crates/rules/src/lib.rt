@@ -1,8 +1,11 @@
-// The vocabulary that the definitions of specs/ and the code share. There is no code here.
+// The vocabulary that the definitions of specs/ and the code share. There is no code here but what tells a refusal in words.
 #![tactic(auto)]
 
+use std::error::Error;
+use std::fmt;
+
 // The formats, named by their extensions.
-#[derive(Clone, Copy)]
+#[derive(Clone, Copy, Debug, PartialEq, Eq)]
 pub enum Format {
     Pes,
     Pec,
@@ -12,15 +15,8 @@ pub enum Format {
     Vp3,
 }
 
-// What an extension names.
-#[derive(Clone, Copy)]
-pub enum Extension {
-    Of(Format),
-    Unknown,
-}
-
 // What a command does. Kinds 0 to 4 stand for these in this order.
-#[derive(Clone, Copy)]
+#[derive(Clone, Copy, Debug, PartialEq, Eq)]
 pub enum Op {
     Stitch,
     Jump,
@@ -39,48 +35,13 @@ pub struct Cmd {
 }
 
 // The colour of a thread: red, green, blue.
-#[derive(Clone, Copy)]
+#[derive(Clone, Copy, Debug, PartialEq, Eq)]
 pub struct Color(pub u8, pub u8, pub u8);
 
-// An entry of a palette: a thread that may be chosen, or none.
-#[derive(Clone, Copy)]
-pub enum Slot {
-    Empty,
-    Thread(Color),
-}
-
-// Where something stands in a list, if anywhere.
-#[derive(Clone, Copy)]
-pub enum Found {
-    At(usize),
-    Missing,
-}
-
-// What the choice of the nearest entry answers: its index and its distance; or there is no thread to choose. Of equals it is the later.
-#[derive(Clone, Copy)]
-pub enum Nearest {
-    Near(usize, u32),
-    NoThread,
-}
-
-// The same of JEF's choice. Of equals it is the first.
-#[derive(Clone, Copy)]
-pub enum JefNearest {
-    Near(usize, u32),
-    NoThread,
-}
-
-// The thread before in JEF's thread table, with the entry chosen for it, if there is one.
-#[derive(Clone, Copy)]
-pub enum Previous {
-    First,
-    Entry(usize, Color),
-}
-
-// Why a call refuses, in the order of the numbers 1 to 14.
-#[derive(Clone, Copy)]
+// Why a call refuses: the error of every call, with the numbers 1 to 14 of the documents.
+#[derive(Clone, Copy, Debug, PartialEq, Eq)]
 pub enum Refusal {
-    UnknownExtension,
+    UnknownExtension = 1,
     FileTooLong,
     BadOpening,
     FileTooShort,
@@ -96,12 +57,50 @@ pub enum Refusal {
     BadLength,
 }
 
-// What the checks say.
-#[derive(Clone, Copy)]
-pub enum Verdict {
-    Accepted,
-    Refused(Refusal),
+// The sentences of README's table of refusals, which compare/programs.sh compares.
+impl fmt::Display for Refusal {
+    fn fmt<W: fmt::Write>(&self, f: &mut fmt::Formatter<W>) -> fmt::Result {
+        f.write_str(match self {
+            Refusal::UnknownExtension => {
+                "an extension other than pes, pec, dst, exp, jef, vp3 (letters of either case)"
+            }
+            Refusal::FileTooLong => "a file or job longer than 2,097,152 bytes",
+            Refusal::BadOpening => {
+                "a PES that doesn't begin #PES, a VP3 that doesn't begin %vsm% and a zero byte"
+            }
+            Refusal::FileTooShort => {
+                "PES under 12 bytes; PEC part without its count byte; DST under 512; JEF under 4; \
+                 VP3 part that ends before or inside a fixed field ahead of stitches"
+            }
+            Refusal::StartBelowZero => "PES start below zero",
+            Refusal::BadList => {
+                "a list that is empty or over 65,535 commands, slices of unequal length, a kind over 4, \
+                 or the end missing, early or repeated"
+            }
+            Refusal::PlaceOutside => "a place outside -16,000..16,000",
+            Refusal::TooMany => {
+                "over 254 colour changes or 255 threads, or thread bytes not a multiple of three"
+            }
+            Refusal::Moved => "a trim, colour change or end that moves",
+            Refusal::StepTooLong => {
+                "a step outside the format's limits: DST -121 to 121, EXP and JEF -127 to 127, \
+                 PES and PEC -2,048 to 2,047"
+            }
+            Refusal::BufferTooShort => "a buffer shorter than the answer",
+            Refusal::OutOfRange => {
+                "a VP3 length that passes its enclosing part, \
+                 or a place or block start beyond 32 signed bits"
+            }
+            Refusal::BadTag => "an unknown tag or kind in a job, a tag out of order, or no name",
+            Refusal::BadLength => {
+                "a job's field that passes the end, or a length other than at most 64 for a name, \
+                 3 for a thread, a multiple of 5 for commands; a name over 64 bytes"
+            }
+        })
+    }
 }
+
+impl Error for Refusal {}
 
 // How much a read found: points, runs, blocks listed, and cuts.
 #[derive(Clone, Copy)]
@@ -112,26 +111,18 @@ pub struct Counts {
     pub cuts: u32,
 }
 
-// What a read answers.
-#[derive(Clone, Copy)]
-pub enum ReadAnswer {
-    Read(Counts),
-    Unread(Refusal),
-}
-
 // What a write answers: the length of the file, and the largest distance of a thread from its entry.
 #[derive(Clone, Copy)]
-pub enum WriteAnswer {
-    Written(usize, u32),
-    Unwritten(Refusal),
+pub struct Written {
+    pub len: usize,
+    pub distance: u32,
 }
 
-// What a write answers whose file is read back: not written, and why; written, with its length, but not read, and why; or both.
+// Why a list is not written and read back: not written, and why; or written, with the file's length, but not read, and why.
 #[derive(Clone, Copy)]
-pub enum RoundTripAnswer {
+pub enum RoundTripRefusal {
     NotWritten(Refusal),
     NotRead(usize, Refusal),
-    ReadBack(usize, Counts),
 }
 
 // How much a job holds: commands, and bytes of threads.
@@ -141,20 +132,6 @@ pub struct JobCounts {
     pub thread_bytes: u32,
 }
 
-// What the import of a job answers.
-#[derive(Clone, Copy)]
-pub enum ImportAnswer {
-    Imported(JobCounts),
-    NotImported(Refusal),
-}
-
-// What the export of a job answers: its length.
-#[derive(Clone, Copy)]
-pub enum ExportAnswer {
-    Exported(usize),
-    NotExported(Refusal),
-}
-
 // A hoop: from left to right on the x axis, from top to bottom on the y axis, which points down.
 #[derive(Clone, Copy)]
 pub struct Hoop {
@@ -162,14 +139,6 @@ pub struct Hoop {
     pub right: i32,
     pub top: i32,
     pub bottom: i32,
-}
-
-// Whether what a file sews lies in a hoop, or why the file is refused.
-#[derive(Clone, Copy)]
-pub enum FitsAnswer {
-    Yes,
-    No,
-    Unread(Refusal),
 }
 
 // What the first record of a list of bytes does, by how far it moves, and the bytes it takes.

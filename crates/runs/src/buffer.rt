@@ -41,10 +41,8 @@ pub fn put_text(out: &mut Buffer, at: usize, text: &[u8]) -> usize
     ensures { result ≤ 65536 }
 {
     let mut to = at;
-    let mut i = 0;
-    while i < text.len() {
-        to = put_byte(out, to, text[i]);
-        i += 1;
+    for b in text {
+        to = put_byte(out, to, *b);
     }
     to
 }

@@ -9,7 +9,7 @@ ghost use Rattle.std.specs.Io.{ReadsAtMost};
 
 use buffer::Buffer;
 use formats::extension_of;
-use rules::{Extension, ReadAnswer, Refusal};
+use rules::Refusal;
 use std::io;
 use std::io::Read;
 
@@ -19,22 +19,18 @@ fn line_end(input: &[u8]) -> usize
     ensures before { (k : ℕ) → k < result → get_or input.now k 0 ≡ 10 → ⊥ }
     ensures found { result < length input.now → get_or input.now result 0 ≡ 10 }
 {
-    let mut i = 0;
-    while i < input.len() {
-        if input[i] == b'\n' {
-            return i;
-        }
-        i += 1;
-    }
-    i
+    input
+        .iter()
+        .position(|b| *b == b'\n')
+        .unwrap_or(input.len())
 }
 
 // Why a file past 65,536 bytes is refused: the extension is asked first.
 fn too_long(ext: &[u8]) -> Refusal {
     let named = extension_of(ext);
     match named {
-        Extension::Of(_) => Refusal::FileTooLong,
-        Extension::Unknown => Refusal::UnknownExtension,
+        Some(_) => Refusal::FileTooLong,
+        None => Refusal::UnknownExtension,
     }
 }
 
@@ -50,12 +46,12 @@ fn answer(out: &mut Buffer, ext: &[u8], file: &[u8]) -> usize
     let mut blocks = [0u32; 16384];
     let told = read::read(ext, file, &mut places, &mut runs, &mut blocks);
     match told {
-        ReadAnswer::Read(c) => {
+        Ok(c) => {
             let mut at = show::counts(out, 0, ext, c);
             at = show::label(out, at, read_refusals::label(ext, file));
             show::blocks(out, at, &places, &runs, &blocks, c.blocks)
         }
-        ReadAnswer::Unread(why) => show::refused(out, 0, why),
+        Err(why) => show::refused(out, 0, why),
     }
 }
 
@@ -76,6 +72,7 @@ fn read_full<R: Read>(input: &mut R, buf: &mut [u8]) -> io::Result<usize>
     ensures { ReadsAtMost result buf.new }
 {
     let mut done = 0;
+    // Kept as while: each turn goes on by as many bytes as were read.
     while done < buf.len() {
         let n = input.read(&mut buf[done..])?;
         if n == 0 {

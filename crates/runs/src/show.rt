@@ -3,7 +3,7 @@ ghost use Rattle.std.specs.Prelude.{◌≤◌, ◌<◌, length};
 
 use crate::buffer::{Buffer, put_byte, put_decimal, put_text};
 use formats::extension_of;
-use rules::{BLOCK_CELLS, Counts, Extension, Format, Refusal};
+use rules::{BLOCK_CELLS, Counts, Format, Refusal};
 
 // A name and a number.
 fn number(out: &mut Buffer, at: usize, name: &[u8], n: u32) -> usize
@@ -18,12 +18,12 @@ fn signed(out: &mut Buffer, at: usize, z: i32) -> usize
     requires { at ≤ 65536 }
     ensures { result ≤ 65536 }
 {
-    let w = z as i64;
-    if w < 0 {
+    let n = z.unsigned_abs() as u64;
+    if z < 0 {
         let to = put_byte(out, at, b'-');
-        return put_decimal(out, to, (0 - w) as u64);
+        return put_decimal(out, to, n);
     }
-    put_decimal(out, at, w as u64)
+    put_decimal(out, at, n)
 }
 
 pub fn refused(out: &mut Buffer, at: usize, why: Refusal) -> usize
@@ -40,7 +40,7 @@ fn extension(out: &mut Buffer, at: usize, ext: &[u8]) -> usize
     ensures { result ≤ 65536 }
 {
     let named = extension_of(ext);
-    let Extension::Of(f) = named else {
+    let Some(f) = named else {
         return at;
     };
     match f {
@@ -67,13 +67,10 @@ pub fn counts(out: &mut Buffer, at: usize, ext: &[u8], c: Counts) -> usize
 
 // A byte outside 0x20..0x7E is shown as a dot.
 fn visible(b: u8) -> u8 {
-    if b < 0x20 {
-        return b'.';
+    match b {
+        0x20..=0x7E => b,
+        _ => b'.',
     }
-    if 0x7E < b {
-        return b'.';
-    }
-    b
 }
 
 pub fn label(out: &mut Buffer, at: usize, s: &[u8]) -> usize
@@ -81,10 +78,8 @@ pub fn label(out: &mut Buffer, at: usize, s: &[u8]) -> usize
     ensures { result ≤ 65536 }
 {
     let mut to = put_text(out, at, b"label [");
-    let mut i = 0;
-    while i < s.len() {
-        to = put_byte(out, to, visible(s[i]));
-        i += 1;
+    for b in s {
+        to = put_byte(out, to, visible(*b));
     }
     put_text(out, to, b"]\n")
 }
@@ -137,10 +132,8 @@ fn points(out: &mut Buffer, at: usize, cells: &[i32]) -> usize
     ensures { result ≤ 65536 }
 {
     let mut to = at;
-    let mut i = 0;
-    while i + 1 < cells.len() {
-        to = point(out, to, cells[i], cells[i + 1]);
-        i += 2;
+    for p in cells.chunks_exact(2) {
+        to = point(out, to, p[0], p[1]);
     }
     to
 }
@@ -156,10 +149,7 @@ fn past(at: usize, n: usize, end: usize) -> usize
     requires { at ≤ end }
     ensures { (at ≤ result) × (result ≤ end) }
 {
-    if n <= end - at {
-        return at + n;
-    }
-    end
+    at + n.min(end - at)
 }
 
 // What comes next: a place in the buffer, a cell and a run.
@@ -190,10 +180,8 @@ fn block_runs(out: &mut Buffer, from: Next, places: &[i32], runs: &[u32]) -> Nex
     ensures { (result.at ≤ 65536) × (result.cell ≤ length places.now) }
 {
     let mut next = from;
-    let mut i = 0;
-    while i < runs.len() {
-        next = run(out, next, places, runs[i]);
-        i += 1;
+    for n in runs {
+        next = run(out, next, places, *n);
     }
     next
 }
@@ -238,18 +226,8 @@ pub fn blocks(
         cell: 0,
         run: 0,
     };
-    let mut i = 0;
-    while i + 2 < last {
-        next = block(
-            out,
-            next,
-            places,
-            runs,
-            blocks[i],
-            blocks[i + 1],
-            blocks[i + 2],
-        );
-        i += 3;
+    for b in blocks[..last].chunks_exact(BLOCK_CELLS) {
+        next = block(out, next, places, runs, b[0], b[1], b[2]);
     }
     next.at
 }

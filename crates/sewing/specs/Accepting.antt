@@ -1,5 +1,5 @@
 -- What acceptance says of the list of commands, one command after the other. Assumes nothing.
-use Rattle.std.specs.Prelude.{◌≡◌, Bool, true, ◌&&◌, ℕ, zero, suc, ◌≤◌, ℤ, pos, ◌-ℤ◌, eqb, ltb, length}
+use Rattle.std.specs.Prelude.{◌≡◌, Bool, true, ◌&&◌, ℕ, zero, suc, ◌≤◌, ℤ, pos, ◌-ℤ◌, eqb, ltb, length, Ok}
 use Rattle.std.proofs.Math.Bool.{false, not}
 use mathlib.Core.List.{List, [], ◌∷◌}
 use Rattle.std.proofs.Math.Nat.{suc_inj}
@@ -12,7 +12,6 @@ use Rattle.rules.specs.declared.Cmd.{Cmd}
 use Rattle.rules.specs.declared.Format.{Format}
 use Rattle.rules.specs.declared.Op.{Op}
 use Rattle.rules.specs.declared.Op.TheVariants.{Stitch, Jump, Trim, ColorChange, End}
-use Rattle.rules.specs.declared.Verdict.TheVariants.{Accepted}
 use Rattle.laws.specs.Verdicts.{first-false}
 use Rattle.laws.specs.Tests.{or-no-left, or-no-right, and_left, and_right, true-is}
 
@@ -24,7 +23,7 @@ pub record Taken (f : Format) (xs ys : List ℤ) (kinds threads : List ℕ) : Ty
   pub still : moved (commands xs ys kinds) ≡ false
   pub steps : step_too_long f (commands xs ys kinds) ≡ false
 
-pub taken : (f : Format) (xs ys : List ℤ) (kinds threads : List ℕ) → list_verdict f xs ys kinds threads ≡ Accepted → Taken f xs ys kinds threads
+pub taken : (f : Format) (xs ys : List ℤ) (kinds threads : List ℕ) → list_verdict f xs ys kinds threads ≡ Ok tt → Taken f xs ys kinds threads
 unfolding list_verdict list_refusals verdict
 taken f xs ys kinds threads e =
     let a = first-false (bad_list xs ys kinds) _ _ e in

@@ -3,7 +3,7 @@
 -- refuses, and what the caller finds in the buffers sews what the list sews. Of two lists, in one format or two: equal sewings come back
 -- exactly
 -- when the lists sew the same. Assumes nothing.
-use Rattle.std.specs.Prelude.{◌≡◌, ◌↔◌, List, [], ◌∷◌, ◌++◌, ℕ, zero, suc, ◌+◌, ◌*◌, ◌≤◌, ℤ, pos, ◌+ℤ◌, length, take, drop}
+use Rattle.std.specs.Prelude.{◌≡◌, ◌↔◌, List, [], ◌∷◌, ◌++◌, ℕ, zero, suc, ◌+◌, ◌*◌, ◌≤◌, ℤ, pos, ◌+ℤ◌, length, take, drop, Some, Ok, Option, Result}
 use Rattle.std.proofs.Math.Path.{refl}
 use Rattle.std.proofs.Common.{◌∙◌, arith, le-ltb, length-append}
 use Rattle.std.proofs.Math.Seq.{take-append_seam}
@@ -11,30 +11,26 @@ use Rattle.rules.specs.Answers.{points_after, start_of, places, block_of, begun_
 use Rattle.rules.specs.Limits.{block_cells_of}
 use Rattle.rules.specs.Lists.{commands}
 use Rattle.rules.specs.Records.{Event, stitch, jump, change}
-use Rattle.rules.specs.Refusals.{verdict, list_refusals, list_verdict}
+use Rattle.rules.specs.Refusals.{verdict, list_refusals, list_verdict, answer_number}
 use Rattle.rules.specs.Files.{file_of, events_of, colour_of, places_of, runs_of, blocks_of, cuts_of, read_verdict, places_told, runs_told, blocks_told, cuts_told, counts_of}
-use Rattle.rules.specs.Files.{read_answer, read_number, read_counts, filled, file_told, distance_told, write_verdict, write_answer, write_number, write_length}
+use Rattle.rules.specs.Files.{read_answer, read_counts, filled, file_told, distance_told, write_verdict, write_answer, write_length}
 use Rattle.rules.specs.Sewing.{Entry, entry, Adding, of_blocks, of_buffers, list_sewing, file_sewing, told_sewing, Needle, needle, list_needles, file_needles, told_needles}
 use Rattle.rules.specs.Promises.{Wrote, ReadOf, Room, KeepsJumps}
 use Rattle.rules.specs.declared.Cmd.{Cmd}
-use Rattle.rules.specs.declared.Extension.{Extension}
-use Rattle.rules.specs.declared.Extension.TheVariants.{Of}
 use Rattle.rules.specs.declared.Format.{Format}
 use Rattle.rules.specs.declared.Format.TheVariants.{Vp3}
-use Rattle.rules.specs.declared.ReadAnswer.{ReadAnswer}
-use Rattle.rules.specs.declared.ReadAnswer.TheVariants.{Read}
-use Rattle.rules.specs.declared.Verdict.TheVariants.{Accepted}
-use Rattle.rules.specs.declared.WriteAnswer.{WriteAnswer}
-use Rattle.rules.specs.declared.WriteAnswer.TheVariants.{Written}
 use Rattle.laws.specs.Verdicts.{verdict-on}
 use Rattle.sewing.specs.Theorem.{kept, kept-needles, alike, read-accepted}
+use Rattle.rules.specs.declared.Counts.{Counts}
+use Rattle.rules.specs.declared.Refusal.{Refusal}
+use Rattle.rules.specs.declared.Written.{Written}
 
 -- A list accepted for a format, written into a buffer that is long enough; the file is the front bytes of the length reported. It is read
 -- under
 -- the same extension, with buffers that hold the answer. `extension` is what the extension names, whatever its letters' case.
 pub record RoundTrip : Type 0 where
   pub format : Format
-  pub extension : Extension
+  pub extension : Option Format
   pub name : List ℕ
   pub xs : List ℤ
   pub ys : List ℤ
@@ -48,10 +44,10 @@ pub record RoundTrip : Type 0 where
   pub rs' : List ℕ
   pub bs : List ℕ
   pub bs' : List ℕ
-  pub w : WriteAnswer
-  pub r : ReadAnswer
-  pub named : extension ≡ Of format
-  pub accepted : list_verdict format xs ys kinds threads ≡ Accepted
+  pub w : Result Written Refusal
+  pub r : Result Counts Refusal
+  pub named : extension ≡ Some format
+  pub accepted : list_verdict format xs ys kinds threads ≡ Ok tt
   pub room : Room format (file_of format name (commands xs ys kinds) threads) d ps rs bs
   pub wrote : Wrote extension name xs ys kinds threads d d' w
   pub read_back : ReadOf extension (take (write_length w) d') ps rs bs ps' rs' bs' r
@@ -72,8 +68,8 @@ needles_back t = told_needles (read_counts t.r) t.ps' t.rs' t.bs'
 
 -- neither call refuses, and the sewing that comes back is the list's, in the formats that keep jumps; in VP3 the needle places are
 pub record Sewn (t : RoundTrip) : Type 0 where
-  pub written : write_number t.w ≡ 0
-  pub read : read_number t.r ≡ 0
+  pub written : answer_number t.w ≡ 0
+  pub read : answer_number t.r ≡ 0
   pub same : KeepsJumps t.format → back t ≡ sewing t
   pub needled : t.format ≡ Vp3 → needles_back t ≡ needles t
 
@@ -128,8 +124,8 @@ front answer l n e = rw e (take-append_seam answer (drop (length answer) l))
 
 -- ---- the claim
 
-pub write-accepts : (f : Format) (e : Extension) (name : List ℕ) (xs ys : List ℤ) (kinds threads : List ℕ) (n : ℕ) → e ≡ Of f → list_verdict f xs ys kinds threads ≡ Accepted
-    → length (file_of f name (commands xs ys kinds) threads) ≤ n → write_verdict e name xs ys kinds threads n ≡ Accepted
+pub write-accepts : (f : Format) (e : Option Format) (name : List ℕ) (xs ys : List ℤ) (kinds threads : List ℕ) (n : ℕ) → e ≡ Some f → list_verdict f xs ys kinds threads ≡ Ok tt
+    → length (file_of f name (commands xs ys kinds) threads) ≤ n → write_verdict e name xs ys kinds threads n ≡ Ok tt
 unfolding write_verdict list_verdict verdict
 write-accepts f e name xs ys kinds threads n is a h =
     rw is (verdict-on (list_refusals f xs ys kinds threads) _ a ∙ rw (le-ltb n (length (file_of f name (commands xs ys kinds) threads)) h))
@@ -141,10 +137,10 @@ module _ (t : RoundTrip) where
   abbrev file : List ℕ
   file = file_of t.format t.name cs t.threads
 
-  accepts : write_verdict t.extension t.name t.xs t.ys t.kinds t.threads (length t.d) ≡ Accepted
+  accepts : write_verdict t.extension t.name t.xs t.ys t.kinds t.threads (length t.d) ≡ Ok tt
   accepts = write-accepts t.format t.extension t.name t.xs t.ys t.kinds t.threads (length t.d) t.named t.accepted t.room.bytes
 
-  is-written : t.w ≡ Written (length file) (distance_told t.extension t.threads)
+  is-written : t.w ≡ Ok (record { len = (length file); distance = (distance_told t.extension t.threads) })
   unfolding write_answer file_told
   is-written = t.wrote.answered ∙ rw (accepts, t.named)
 
@@ -159,7 +155,7 @@ module _ (t : RoundTrip) where
   reading : ReadOf t.extension file t.ps t.rs t.bs t.ps' t.rs' t.bs' t.r
   reading = rw the_file_lem at t.read_back
 
-  read-accepts : read_verdict t.extension file (length t.ps) (length t.rs) (length t.bs) ≡ Accepted
+  read-accepts : read_verdict t.extension file (length t.ps) (length t.rs) (length t.bs) ≡ Ok tt
   read-accepts =
       let k = kept t.format t.name t.xs t.ys t.kinds t.threads t.accepted in
       rw t.named (read-accepted t.format file _ _ _ k.taken_back t.room.place_cells t.room.run_cells t.room.block_cells)
@@ -173,7 +169,7 @@ module _ (t : RoundTrip) where
   abbrev B : List ℕ
   B = blocks_of t.format file
 
-  is_read : t.r ≡ Read (counts_of P R B (cuts_of t.format file))
+  is_read : t.r ≡ Ok (counts_of P R B (cuts_of t.format file))
   unfolding read_answer places_told runs_told blocks_told cuts_told
   is_read = reading.answered ∙ rw (read-accepts, t.named)
 
@@ -196,7 +192,7 @@ module _ (t : RoundTrip) where
       (rw (front P t.ps _ (points-cells t.format file), front R t.rs _ refl, front B t.bs _ (blocks-cells t.format file)))
 
   pub sewn : Sewn t
-  unfolding write_number read_number told_sewing file_sewing told_needles file_needles
+  unfolding answer_number told_sewing file_sewing told_needles file_needles
   sewn = record {
     written = rw is-written;
     read = rw is_read;

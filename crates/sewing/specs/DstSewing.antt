@@ -1,5 +1,5 @@
 -- The DST file of an accepted list is accepted when it is read, and sews what the list sews. Assumes nothing.
-use Rattle.std.specs.Prelude.{◌≡◌, refl, Bool, true, ◌&&◌, List, [], ◌∷◌, ◌++◌, ℕ, suc, ◌+◌, ◌*◌, ◌≤◌, ℤ, pos, negsuc, nat_abs, ◌+ℤ◌, ◌-ℤ◌, T, eqb, length, take, drop}
+use Rattle.std.specs.Prelude.{◌≡◌, refl, Bool, true, ◌&&◌, List, [], ◌∷◌, ◌++◌, ℕ, suc, ◌+◌, ◌*◌, ◌≤◌, ℤ, pos, negsuc, nat_abs, ◌+ℤ◌, ◌-ℤ◌, T, eqb, length, take, drop, Some, Ok}
 use Rattle.std.proofs.Common.{sym, ◌∙◌, append-nil, arith, le-ltb, eqb→eq, length-append, length-take, drop_at}
 use Rattle.std.proofs.Math.Path.{ap, ap₂}
 use Rattle.std.proofs.Math.IntN.{neg_ℤ, neg_ℤ-neg_ℤ, +ℤ_assoc, +ℤ_idr}
@@ -12,12 +12,10 @@ use Rattle.rules.specs.Dst.{bit, weigh, dst_x, dst_y, under, dst_record, dst_fir
 use Rattle.rules.specs.Dst.{signed_right, dst_text, dst_file}
 use Rattle.rules.specs.Files.{file_of, events_of, file_refusals, file_verdict}
 use Rattle.rules.specs.declared.Cmd.{Cmd}
-use Rattle.rules.specs.declared.Extension.TheVariants.{Of}
 use Rattle.rules.specs.declared.Format.TheVariants.{Dst}
 use Rattle.rules.specs.declared.Op.{Op}
 use Rattle.rules.specs.declared.Op.TheVariants.{Stitch, Jump, Trim, ColorChange, End}
 use Rattle.rules.specs.declared.Record.TheVariants.{StitchBy, JumpBy, Finish}
-use Rattle.rules.specs.declared.Verdict.TheVariants.{Accepted}
 use Rattle.laws.specs.Tests.{is_true, and_left, and_right}
 use Rattle.laws.specs.Ints.{eqz-true, between-true, abs-le, abs_neg, ints}
 use Rattle.laws.specs.Tables.{checked}
@@ -247,7 +245,7 @@ unfolding written
 length-written x y [] = omega arith
 length-written x y (c ∷ cs) = simp length-append (omega (arith, length-cmd (op_of c.kind) (c.x -ℤ x) (c.y -ℤ y), length-written c.x c.y cs))
 
-pub dst-taken : (name : List ℕ) (cs : List Cmd) (threads : List ℕ) → length cs ≤ 65535 → file_verdict (Of Dst) (file_of Dst name cs threads) ≡ Accepted
+pub dst-taken : (name : List ℕ) (cs : List Cmd) (threads : List ℕ) → length cs ≤ 65535 → file_verdict (Some Dst) (file_of Dst name cs threads) ≡ Ok tt
 unfolding file_of dst_file file_verdict file_refusals verdict
 dst-taken name cs threads h =
     let p = length-append (padded 512 (dst_text name cs)) (written dst_cmd (pos 0) (pos 0) cs) in

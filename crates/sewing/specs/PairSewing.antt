@@ -1,5 +1,5 @@
 -- EXP and JEF: the file of a list, read, sews what the list sews, and no check of a file refuses it. Assumes nothing.
-use Rattle.std.specs.Prelude.{◌≡◌, refl, Bool, true, false, ◌&&◌, List, [], ◌∷◌, ◌++◌, ℕ, suc, ◌+◌, ◌*◌, ◌≤◌, ◌<◌, ◌^◌, ℤ, pos, neg_ℤ, ◌+ℤ◌, ◌-ℤ◌, eqb, length, take}
+use Rattle.std.specs.Prelude.{◌≡◌, refl, Bool, true, false, ◌&&◌, List, [], ◌∷◌, ◌++◌, ℕ, suc, ◌+◌, ◌*◌, ◌≤◌, ◌<◌, ◌^◌, ℤ, pos, neg_ℤ, ◌+ℤ◌, ◌-ℤ◌, eqb, length, take, Some, None, Ok, Option}
 use Rattle.std.proofs.Common.{sym, ◌∙◌, ap₂, append_assoc, append-nil, mod-eq_of_lt, arith, le-ltb, length-append, drop_at}
 use Rattle.std.proofs.Math.Path.{ap}
 use Rattle.std.proofs.Math.IntN.{neg_ℤ-neg_ℤ}
@@ -16,15 +16,11 @@ use Rattle.rules.specs.Files.{file_of, events_of, file_refusals, file_verdict}
 use Rattle.rules.specs.Text.{word_at}
 use Rattle.rules.specs.declared.Cmd.{Cmd}
 use Rattle.rules.specs.declared.Color.{Color}
-use Rattle.rules.specs.declared.Extension.TheVariants.{Of}
 use Rattle.rules.specs.declared.Format.TheVariants.{Exp, Jef}
 use Rattle.rules.specs.declared.Op.{Op}
 use Rattle.rules.specs.declared.Op.TheVariants.{Stitch, Jump, Trim, ColorChange, End}
-use Rattle.rules.specs.declared.Previous.{Previous}
-use Rattle.rules.specs.declared.Previous.TheVariants.{First, Entry}
 use Rattle.rules.specs.declared.Record.{Record}
 use Rattle.rules.specs.declared.Record.TheVariants.{StitchBy, JumpBy, Finish}
-use Rattle.rules.specs.declared.Verdict.TheVariants.{Accepted}
 use Rattle.laws.specs.Tests.{and_left, and_right, pick-ne, pick-le, pick-false, pick-both}
 use Rattle.laws.specs.Ints.{dn, ints, up_neg, dn-neg, between-true}
 use Rattle.laws.specs.Twos.{signed-bits, signed_low}
@@ -174,10 +170,10 @@ unfolding jef_header joined
 header-length cs threads = simp (length-append, length-little, length-words, length-edges, length-replicate) (omega arith)
 
 -- the table holds an entry for each thread, or one
-entries-length : (last : Previous) (threads : List Color) → length (jef_entries last threads) ≡ length threads
+entries-length : (last : Option (ℕ × Color)) (threads : List Color) → length (jef_entries last threads) ≡ length threads
 unfolding jef_entries
 entries-length last [] = refl
-entries-length last (t ∷ ts) = ap suc (entries-length (Entry (jef_choice last t) t) ts)
+entries-length last (t ∷ ts) = ap suc (entries-length (Some (jef_choice last t, t)) ts)
 
 or-one-length : (es : List ℕ) → length (or_one es) ≤ suc (length es)
 unfolding or_one
@@ -186,7 +182,7 @@ or-one-length (e ∷ es) = omega arith
 
 pub table-length : (threads : List Color) → length (jef_table threads) ≤ suc (length threads)
 unfolding jef_table
-table-length threads = omega (arith, or-one-length (jef_entries First threads), entries-length First threads)
+table-length threads = omega (arith, or-one-length (jef_entries None threads), entries-length None threads)
 
 -- the offset is the header's length
 offset : (cs : List Cmd) (threads : List Color) → length threads ≤ 255 → word_at 0 (jef_file cs threads) ≡ pos (length (jef_header cs threads))
@@ -236,13 +232,13 @@ jef-four-bytes Trim dx dy = omega arith
 jef-four-bytes ColorChange dx dy = omega arith
 jef-four-bytes End dx dy = omega arith
 
-pub exp-taken : (name : List ℕ) (cs : List Cmd) (threads : List ℕ) → length cs ≤ 65535 → file_verdict (Of Exp) (file_of Exp name cs threads) ≡ Accepted
+pub exp-taken : (name : List ℕ) (cs : List Cmd) (threads : List ℕ) → length cs ≤ 65535 → file_verdict (Some Exp) (file_of Exp name cs threads) ≡ Ok tt
 unfolding file_verdict file_refusals verdict file_of exp_file
 exp-taken name cs threads h =
     rw (le-ltb 2097152 (length (written exp_cmd (pos 0) (pos 0) cs)) (omega (arith, written-length exp_cmd exp-four-bytes (pos 0) (pos 0) cs)))
 
 pub jef-taken : (name : List ℕ) (cs : List Cmd) (threads : List ℕ) → length cs ≤ 65535 → length (threads_of threads) ≤ 255
-    → file_verdict (Of Jef) (file_of Jef name cs threads) ≡ Accepted
+    → file_verdict (Some Jef) (file_of Jef name cs threads) ≡ Ok tt
 unfolding file_verdict file_refusals verdict file_of jef_file
 jef-taken name cs threads h l =
     let header = jef_header cs (threads_of threads) in

@@ -1,6 +1,6 @@
 -- PEC and PES files: where the stitches stand, how long the parts are, and that they sew what the list sews and are not refused. Assumes
 -- nothing.
-use Rattle.std.specs.Prelude.{◌≡◌, true, ◌&&◌, ℤ, pos, neg_ℤ, nat_abs, ltb, take, drop, set}
+use Rattle.std.specs.Prelude.{◌≡◌, true, ◌&&◌, ℤ, pos, neg_ℤ, nat_abs, ltb, take, drop, set, Some, Ok}
 use Rattle.std.proofs.Math.Path.{refl, ap}
 use Rattle.std.proofs.Common.{sym, ◌∙◌, length-append}
 use mathlib.Core.List.{List, [], ◌∷◌, ◌++◌, append_assoc, append-nil}
@@ -21,13 +21,11 @@ use Rattle.rules.specs.Text.{word_at, begins}
 use Rattle.rules.specs.Sewing.{list_sewing}
 use Rattle.rules.specs.declared.Cmd.{Cmd}
 use Rattle.rules.specs.declared.Color.{Color}
-use Rattle.rules.specs.declared.Extension.TheVariants.{Of}
 use Rattle.rules.specs.declared.Format.{Format}
 use Rattle.rules.specs.declared.Format.TheVariants.{Pes, Pec}
 use Rattle.rules.specs.declared.Op.{Op}
 use Rattle.rules.specs.declared.Op.TheVariants.{Stitch, Jump, Trim, ColorChange, End}
 use Rattle.rules.specs.declared.Scale.{Scale}
-use Rattle.rules.specs.declared.Verdict.TheVariants.{Accepted}
 use Rattle.laws.specs.Tests.{by-test, and_left, and_right}
 use Rattle.laws.specs.Ints.{InBits, ints, between-true}
 use Rattle.laws.specs.Twos.{signed_low}
@@ -167,7 +165,7 @@ module _ (name : List ℕ) (cs : List Cmd) (threads : List ℕ) (few : Few cs th
   part-long : length (pec_part name cs ts) ≡ 984 + length (stitches_of cs) + 228 * count changes cs
   part-long = part_length name cs ts few.threads_few
 
-  pub pec-taken : file_verdict (Of Pec) (file_of Pec name cs threads) ≡ Accepted
+  pub pec-taken : file_verdict (Some Pec) (file_of Pec name cs threads) ≡ Ok tt
   unfolding file_verdict verdict file_refusals no_count file_of
   pec-taken =
       let n : length (pec_file name cs ts) ≤ 2097152 = omega (arith, pec-length name cs ts, part-long, length-stitches pec_start (pos 0) (pos 0) cs, few) in
@@ -178,7 +176,7 @@ module _ (name : List ℕ) (cs : List Cmd) (threads : List ℕ) (few : Few cs th
   unfolding begins same_bytes pes_file joined
   begins-pes = refl
 
-  pub pes-taken : file_verdict (Of Pes) (file_of Pes name cs threads) ≡ Accepted
+  pub pes-taken : file_verdict (Some Pes) (file_of Pes name cs threads) ≡ Ok tt
   unfolding file_verdict verdict file_refusals no_count part_at file_of
   pes-taken =
       let s : List ℕ = pes_file name cs ts in

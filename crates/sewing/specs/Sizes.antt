@@ -1,31 +1,25 @@
 -- How long a written file can be: `bound_of` and what `write_bound` answers. No accepted list's file is longer, and a write into a buffer
 -- that is
 -- at least as long as `write_bound` answers is never refused by 11. Assumes nothing.
-use Rattle.std.specs.Prelude.{◌≡◌, Bool, List, [], ◌∷◌, ℕ, ◌/◌, ◌≤◌, min, ℤ, pos, length}
+use Rattle.std.specs.Prelude.{◌≡◌, Bool, List, [], ◌∷◌, ℕ, ◌/◌, ◌≤◌, min, ℤ, pos, length, Some, None, Ok, Err, Option, Result, ⊤}
 use Rattle.std.proofs.Math.Path.{refl}
 use Rattle.std.proofs.Common.{sym, ◌∙◌, ap}
 use native.Mathlib.Omega.{arith}
 use Rattle.std.proofs.Math.ListN.{length-append}
 use Rattle.rules.specs.Vocabulary.{padded}
 use Rattle.rules.specs.Lists.{commands, threads_of, written}
-use Rattle.rules.specs.Refusals.{number_of, changes, verdict, list_refusals, list_verdict}
+use Rattle.rules.specs.Refusals.{number_of, changes, verdict, list_refusals, list_verdict, answer_number}
 use Rattle.rules.specs.Dst.{dst_cmd, dst_text, dst_file}
 use Rattle.rules.specs.Exp.{exp_cmd, exp_file}
 use Rattle.rules.specs.Jef.{jef_cmd, jef_header, jef_file}
 use Rattle.rules.specs.Pec.{pec_start}
-use Rattle.rules.specs.Files.{file_of, write_verdict, write_answer, write_number}
+use Rattle.rules.specs.Files.{file_of, write_verdict, write_answer}
 use Rattle.rules.specs.Promises.{Wrote, bound_of, bound_told}
 use Rattle.rules.specs.declared.Cmd.{Cmd}
-use Rattle.rules.specs.declared.Extension.{Extension}
-use Rattle.rules.specs.declared.Extension.TheVariants.{Of, Unknown}
 use Rattle.rules.specs.declared.Format.{Format}
 use Rattle.rules.specs.declared.Format.TheVariants.{Pes, Pec, Dst, Exp, Jef, Vp3}
 use Rattle.rules.specs.declared.Refusal.{Refusal}
 use Rattle.rules.specs.declared.Refusal.TheVariants.{BufferTooShort}
-use Rattle.rules.specs.declared.Verdict.{Verdict}
-use Rattle.rules.specs.declared.Verdict.TheVariants.{Accepted, Refused}
-use Rattle.rules.specs.declared.WriteAnswer.{WriteAnswer}
-use Rattle.rules.specs.declared.WriteAnswer.TheVariants.{Unwritten}
 use Rattle.laws.specs.Lengths.{length-stitches, length-middle, part_length, pec-length, pes-length}
 use Rattle.laws.specs.Listing.{count-le, length-commands}
 use Rattle.laws.specs.Vp3Lengths.{most-vp3}
@@ -38,6 +32,7 @@ use Rattle.sewing.specs.DstSewing as dst
 use Rattle.sewing.specs.PairSewing.{header-length, table-length, written-length, exp-four-bytes, jef-four-bytes}
 use Rattle.sewing.specs.PecFiles.{Few}
 use Rattle.sewing.specs.Theorem.{few}
+use Rattle.rules.specs.declared.Written.{Written}
 
 -- ---- by format
 
@@ -90,8 +85,8 @@ grows Vp3 n n' t t' h k = omega arith
 -- ---- the claim
 
 -- no accepted list's file is longer
-pub bounded : (f : Format) (name : List ℕ) (xs ys : List ℤ) (kinds threads : List ℕ) → list_verdict f xs ys kinds threads ≡ Accepted
-    → length (file_of f name (commands xs ys kinds) threads) ≤ bound_told (Of f) (length kinds) (length threads / 3)
+pub bounded : (f : Format) (name : List ℕ) (xs ys : List ℤ) (kinds threads : List ℕ) → list_verdict f xs ys kinds threads ≡ Ok tt
+    → length (file_of f name (commands xs ys kinds) threads) ≤ bound_told (Some f) (length kinds) (length threads / 3)
 unfolding bound_told
 bounded f name xs ys kinds threads e =
     let n = few f xs ys kinds threads (taken f xs ys kinds threads e) in
@@ -112,43 +107,43 @@ abbrev pub Below : List (Refusal × Bool) → Type 0
 Below [] = Unit {0}
 Below (c ∷ cs) = Other c.0 × Below cs
 
-abbrev pub Small : Verdict → Type 0
-Small Accepted = Unit {0}
-Small (Refused r) = Other r
+abbrev pub Small : Result ⊤ Refusal → Type 0
+Small (Ok u) = Unit {0}
+Small (Err r) = Other r
 
 small : (cs : List (Refusal × Bool)) → Below cs → Small (verdict cs)
 unfolding verdict
 small [] h = tt
 small (c ∷ cs) h = by-test c.1 (λ t. rw t h.0) (λ t. rw t (small cs h.1))
 
-module _ (f : Format) (name : List ℕ) (xs ys : List ℤ) (kinds threads : List ℕ) (n : ℕ) (room : bound_told (Of f) (length kinds) (length threads / 3) ≤ n) where
+module _ (f : Format) (name : List ℕ) (xs ys : List ℤ) (kinds threads : List ℕ) (n : ℕ) (room : bound_told (Some f) (length kinds) (length threads / 3) ≤ n) where
   -- by what is said of the list
-  by-list : (v : Verdict) → list_verdict f xs ys kinds threads ≡ v → Small v → Small (write_verdict (Of f) name xs ys kinds threads n)
+  by-list : (v : Result ⊤ Refusal) → list_verdict f xs ys kinds threads ≡ v → Small v → Small (write_verdict (Some f) name xs ys kinds threads n)
   unfolding list_verdict write_verdict
-  by-list Accepted e s = rw (write-accepts f (Of f) name xs ys kinds threads n refl e (omega (arith, room, bounded f name xs ys kinds threads e))) tt
-  by-list (Refused r) e s = rw (verdict-stop (list_refusals f xs ys kinds threads) _ r e) s
+  by-list (Ok u) e s = rw (write-accepts f (Some f) name xs ys kinds threads n refl e (omega (arith, room, bounded f name xs ys kinds threads e))) tt
+  by-list (Err r) e s = rw (verdict-stop (list_refusals f xs ys kinds threads) _ r e) s
 
   below : Below (list_refusals f xs ys kinds threads)
   unfolding list_refusals number_of
   below = (λ e. omega arith, (λ e. omega arith, (λ e. omega arith, (λ e. omega arith, (λ e. omega arith, tt)))))
 
-  known_small : Small (write_verdict (Of f) name xs ys kinds threads n)
+  known_small : Small (write_verdict (Some f) name xs ys kinds threads n)
   unfolding list_verdict
   known_small = by-list (list_verdict f xs ys kinds threads) refl (small (list_refusals f xs ys kinds threads) below)
 
-any_small : (e : Extension) (name : List ℕ) (xs ys : List ℤ) (kinds threads : List ℕ) (n : ℕ) → bound_told e (length kinds) (length threads / 3) ≤ n
+any_small : (e : Option Format) (name : List ℕ) (xs ys : List ℤ) (kinds threads : List ℕ) (n : ℕ) → bound_told e (length kinds) (length threads / 3) ≤ n
     → Small (write_verdict e name xs ys kinds threads n)
 unfolding write_verdict verdict number_of
-any_small Unknown name xs ys kinds threads n room = λ e. omega arith
-any_small (Of f) name xs ys kinds threads n room = known_small f name xs ys kinds threads n room
+any_small None name xs ys kinds threads n room = λ e. omega arith
+any_small (Some f) name xs ys kinds threads n room = known_small f name xs ys kinds threads n room
 
-not-eleven : (v : Verdict) (far len : ℕ) → Small v → write_answer far v len ≡ Unwritten BufferTooShort → ⊥
-unfolding write_answer number_of write_number
-not-eleven Accepted far len s e = let z : ◌≡◌ {A = ℕ} 0 1 = cc in omega arith
-not-eleven (Refused r) far len s e = s (ap write_number e)
+not-eleven : (v : Result ⊤ Refusal) (far len : ℕ) → Small v → write_answer far v len ≡ Err BufferTooShort → ⊥
+unfolding write_answer number_of answer_number
+not-eleven (Ok u) far len s e = let z : ◌≡◌ {A = ℕ} 0 1 = cc in omega arith
+not-eleven (Err r) far len s e = s (ap answer_number e)
 
 -- `write` into a buffer that is at least as long as `write_bound` answers is never refused by 11
-pub never-short : (e : Extension) (name : List ℕ) (xs ys : List ℤ) (kinds threads d d' : List ℕ) (w : WriteAnswer) → Wrote e name xs ys kinds threads d d' w
-    → bound_told e (length kinds) (length threads / 3) ≤ length d → w ≡ Unwritten BufferTooShort → ⊥
+pub never-short : (e : Option Format) (name : List ℕ) (xs ys : List ℤ) (kinds threads d d' : List ℕ) (w : Result Written Refusal) → Wrote e name xs ys kinds threads d d' w
+    → bound_told e (length kinds) (length threads / 3) ≤ length d → w ≡ Err BufferTooShort → ⊥
 never-short e name xs ys kinds threads d d' w p room is =
     not-eleven (write_verdict e name xs ys kinds threads (length d)) _ _ (any_small e name xs ys kinds threads (length d) room) (sym p.answered ∙ is)

@@ -2,7 +2,7 @@
 -- refused, and what is
 -- read of it sews what the list sews. Two lists, in one format or two, read back as equal sewings exactly when they sew the same. Assumes
 -- nothing.
-use Rattle.std.specs.Prelude.{◌≡◌, ◌↔◌, false, List, ℕ, ◌/◌, ◌≤◌, ℤ, pos, ltb, length}
+use Rattle.std.specs.Prelude.{◌≡◌, ◌↔◌, false, List, ℕ, ◌/◌, ◌≤◌, ℤ, pos, ltb, length, Some, Ok}
 use Rattle.std.proofs.Common.{sym, ◌∙◌, arith, ltb-false, le-ltb}
 use Rattle.rules.specs.Vocabulary.{count}
 use Rattle.rules.specs.Lists.{commands, threads_of}
@@ -11,10 +11,8 @@ use Rattle.rules.specs.Files.{file_of, events_of, colour_of, places_of, runs_of,
 use Rattle.rules.specs.Promises.{KeepsJumps}
 use Rattle.rules.specs.Sewing.{Entry, list_sewing, file_sewing, Needle, list_needles, file_needles}
 use Rattle.rules.specs.declared.Cmd.{Cmd}
-use Rattle.rules.specs.declared.Extension.TheVariants.{Of}
 use Rattle.rules.specs.declared.Format.{Format}
 use Rattle.rules.specs.declared.Format.TheVariants.{Pes, Pec, Dst, Exp, Jef, Vp3}
-use Rattle.rules.specs.declared.Verdict.TheVariants.{Accepted}
 use Rattle.laws.specs.Threads.{length-threads}
 use Rattle.laws.specs.Tests.{or-no-left, or-no-right}
 use Rattle.laws.specs.Listing.{length-commands}
@@ -57,7 +55,7 @@ events-sew Jef j name cs threads n g = jef-sewing name cs threads n.threads_few 
 events-sew Vp3 j name cs threads n g = absurd j
 
 not-refused : (f : Format) (name : List ℕ) (cs : List Cmd) (threads : List ℕ) → Few cs threads → place_outside cs ≡ false
-    → file_verdict (Of f) (file_of f name cs threads) ≡ Accepted
+    → file_verdict (Some f) (file_of f name cs threads) ≡ Ok tt
 unfolding file_verdict file_refusals file_of
 not-refused Pes name cs threads n p = pes-taken name cs threads n
 not-refused Pec name cs threads n p = pec-taken name cs threads n
@@ -70,10 +68,10 @@ not-refused Vp3 name cs threads n p = vp3-taken cs (threads_of threads) p n.chan
 
 -- the file is not refused, and what is read of it sews what the list sews, in the formats that keep jumps
 pub record Kept (f : Format) (name : List ℕ) (xs ys : List ℤ) (kinds threads : List ℕ) : Type 0 where
-  pub taken_back : file_verdict (Of f) (file_of f name (commands xs ys kinds) threads) ≡ Accepted
+  pub taken_back : file_verdict (Some f) (file_of f name (commands xs ys kinds) threads) ≡ Ok tt
   pub sews_same : KeepsJumps f → read_sewing f (file_of f name (commands xs ys kinds) threads) ≡ list_sewing (commands xs ys kinds)
 
-pub kept : (f : Format) (name : List ℕ) (xs ys : List ℤ) (kinds threads : List ℕ) → list_verdict f xs ys kinds threads ≡ Accepted → Kept f name xs ys kinds threads
+pub kept : (f : Format) (name : List ℕ) (xs ys : List ℤ) (kinds threads : List ℕ) → list_verdict f xs ys kinds threads ≡ Ok tt → Kept f name xs ys kinds threads
 unfolding places_of runs_of blocks_of
 kept f name xs ys kinds threads e =
     let t = taken f xs ys kinds threads e in
@@ -91,7 +89,7 @@ alike p q = (λ e. sym p ∙ e ∙ q, λ e. p ∙ e ∙ sym q)
 
 -- two lists, each accepted for its own format, read back as equal sewings exactly when they sew the same
 pub same-sewing : (f g : Format) → KeepsJumps f → KeepsJumps g → (name name' : List ℕ) (xs ys xs' ys' : List ℤ) (kinds threads kinds' threads' : List ℕ)
-    → list_verdict f xs ys kinds threads ≡ Accepted → list_verdict g xs' ys' kinds' threads' ≡ Accepted
+    → list_verdict f xs ys kinds threads ≡ Ok tt → list_verdict g xs' ys' kinds' threads' ≡ Ok tt
     → (read_sewing f (file_of f name (commands xs ys kinds) threads) ≡ read_sewing g (file_of g name' (commands xs' ys' kinds') threads'))
     ↔ (list_sewing (commands xs ys kinds) ≡ list_sewing (commands xs' ys' kinds'))
 same-sewing f g j j' name name' xs ys xs' ys' kinds threads kinds' threads' e e' =
@@ -104,7 +102,7 @@ abbrev pub read_needles : List ℕ → List Needle
 read_needles s = file_needles (places_of Vp3 s) (runs_of Vp3 s) (blocks_of Vp3 s)
 
 -- they are the list's stitches, with their places and block numbers
-pub kept-needles : (name : List ℕ) (xs ys : List ℤ) (kinds threads : List ℕ) → list_verdict Vp3 xs ys kinds threads ≡ Accepted
+pub kept-needles : (name : List ℕ) (xs ys : List ℤ) (kinds threads : List ℕ) → list_verdict Vp3 xs ys kinds threads ≡ Ok tt
     → read_needles (file_of Vp3 name (commands xs ys kinds) threads) ≡ list_needles (commands xs ys kinds)
 unfolding places_of runs_of blocks_of events_of file_of event_needles
 kept-needles name xs ys kinds threads e =
@@ -116,7 +114,7 @@ kept-needles name xs ys kinds threads e =
 
 -- so of two accepted lists the needle places agree exactly when the stitches do
 pub same-needles : (name name' : List ℕ) (xs ys xs' ys' : List ℤ) (kinds threads kinds' threads' : List ℕ)
-    → list_verdict Vp3 xs ys kinds threads ≡ Accepted → list_verdict Vp3 xs' ys' kinds' threads' ≡ Accepted
+    → list_verdict Vp3 xs ys kinds threads ≡ Ok tt → list_verdict Vp3 xs' ys' kinds' threads' ≡ Ok tt
     → (read_needles (file_of Vp3 name (commands xs ys kinds) threads) ≡ read_needles (file_of Vp3 name' (commands xs' ys' kinds') threads'))
     ↔ (list_needles (commands xs ys kinds) ≡ list_needles (commands xs' ys' kinds'))
 same-needles name name' xs ys xs' ys' kinds threads kinds' threads' e e' =
@@ -124,8 +122,8 @@ same-needles name name' xs ys xs' ys' kinds threads kinds' threads' e e' =
 
 -- ---- with buffers that hold the answer, the read is not refused either
 
-pub read-accepted : (f : Format) (s : List ℕ) (n m k : ℕ) → file_verdict (Of f) s ≡ Accepted
-    → length (places_of f s) ≤ n → length (runs_of f s) ≤ m → length (blocks_of f s) ≤ k → read_verdict (Of f) s n m k ≡ Accepted
+pub read-accepted : (f : Format) (s : List ℕ) (n m k : ℕ) → file_verdict (Some f) s ≡ Ok tt
+    → length (places_of f s) ≤ n → length (runs_of f s) ≤ m → length (blocks_of f s) ≤ k → read_verdict (Some f) s n m k ≡ Ok tt
 unfolding file_verdict read_verdict no_room verdict
 read-accepted f s n m k e a b c =
     verdict-on (file_refusals f s) _ e

@@ -1,5 +1,5 @@
 -- VP3: a file is read back as the blocks of its list. Assumes nothing.
-use Rattle.std.specs.Prelude.{◌≡◌, true, false, not, ℤ, pos, negsuc, neg_ℤ, nat_abs, ◌+ℤ◌, ◌-ℤ◌, ◌*ℤ◌, drop}
+use Rattle.std.specs.Prelude.{◌≡◌, true, false, not, ℤ, pos, negsuc, neg_ℤ, nat_abs, ◌+ℤ◌, ◌-ℤ◌, ◌*ℤ◌, drop, Ok}
 use Rattle.std.proofs.Math.Path.{refl, ap}
 use Rattle.std.proofs.Common.{◌∙◌, arith, le-ltb}
 use mathlib.Core.List.{List, [], ◌∷◌, ◌++◌, append_assoc}
@@ -17,7 +17,6 @@ use Rattle.rules.specs.Vp3.{Blocks, ended, block, fixed, skip, inside, part, tex
 use Rattle.rules.specs.Vp3.{in_design_part, in_file_part, vp3_blocks}
 use Rattle.rules.specs.declared.Cmd.{Cmd}
 use Rattle.rules.specs.declared.Color.{Color}
-use Rattle.rules.specs.declared.Verdict.TheVariants.{Accepted}
 use Rattle.laws.specs.Tests.{pick-both, or-no-left, or-no-right, and-true}
 use Rattle.laws.specs.Ints.{ints, abs_is, abs_neg, neg-law, add-law, sub-law, mul-law, true-le}
 use Rattle.laws.specs.Twos.{signed-bits, bits-lt}
@@ -145,7 +144,7 @@ abs-back y z s h = omega (arith, abs_neg (z -ℤ y), places.apart z y h s)
 
 -- the blocks that a list's blocks are read as, the first from (x, y)
 unfoldable pub as_read : ℤ → ℤ → List Color → List (List Cmd) → Blocks
-as_read x y threads [] = ended Accepted
+as_read x y threads [] = ended (Ok tt)
 as_read x y threads (b ∷ bs) = block x y (or_black threads) (stitches_from x y b) (as_read (end_x x b) (end_y y b) (drop 1 threads) bs)
 
 module _ (x y : ℤ) (c : Color) (b : List Cmd) (few : length b ≤ 65535) where

@@ -1,5 +1,5 @@
 -- VP3: a file of a list, read back, is not refused and has the needle places of the list. Assumes nothing.
-use Rattle.std.specs.Prelude.{◌≡◌, Bool, true, false, ◌&&◌, ℕ, suc, ◌≤◌, ℤ, pos, neg_ℤ, nat_abs, ◌+ℤ◌, ◌-ℤ◌, ltb, length, drop}
+use Rattle.std.specs.Prelude.{◌≡◌, Bool, true, false, ◌&&◌, ℕ, suc, ◌≤◌, ℤ, pos, neg_ℤ, nat_abs, ◌+ℤ◌, ◌-ℤ◌, ltb, length, drop, Ok}
 use Rattle.std.proofs.Math.Path.{refl, ap, ap₂}
 use Rattle.std.proofs.Common.{sym, ◌∙◌, arith, le-ltb}
 use mathlib.Core.List.{List, [], ◌∷◌, ◌++◌}
@@ -18,7 +18,6 @@ use Rattle.rules.specs.declared.Color.{Color}
 use Rattle.rules.specs.declared.Op.{Op}
 use Rattle.rules.specs.declared.Op.TheVariants.{Stitch, Jump, Trim, ColorChange, End}
 use Rattle.rules.specs.declared.Refusal.TheVariants.{FileTooLong}
-use Rattle.rules.specs.declared.Verdict.TheVariants.{Accepted}
 use Rattle.laws.specs.Tests.{by-test, and_left, and_right, false-true, pick-ne, pick-ge}
 use Rattle.laws.specs.Ints.{InBits, ints, dn, abs_is, add-law, between-true}
 use Rattle.laws.specs.Twos.{signed-bits, bits-lt}
@@ -165,7 +164,7 @@ block-stays x y (c ∷ cs) p =
     let op : Op = op_of c.kind in
     cmd-stays x y c.x c.y op _ p.0.across p.0.down (block-stays (last_stitch op x c.x) (last_stitch op y c.y) cs p.1)
 
-no-fault : (x y : ℤ) (threads : List Color) (bs : List (List Cmd)) → places.Small x → places.Small y → AllPlaced bs → fault_in (as_read x y threads bs) ≡ Accepted
+no-fault : (x y : ℤ) (threads : List Color) (bs : List (List Cmd)) → places.Small x → places.Small y → AllPlaced bs → fault_in (as_read x y threads bs) ≡ Ok tt
 unfolding fault_in as_read
 no-fault x y threads [] sx sy p = refl
 no-fault x y threads (b ∷ bs) sx sy p =
@@ -269,7 +268,7 @@ module _ (cs : List Cmd) (threads : List Color) (placed : place_outside cs ≡ f
   all_in : AllPlaced (color_blocks cs)
   all_in = blocks-placed cs (all_placed cs placed)
 
-  pub vp3-unrefused : fault_in (vp3_blocks (vp3_file cs threads)) ≡ Accepted
+  pub vp3-unrefused : fault_in (vp3_blocks (vp3_file cs threads)) ≡ Ok tt
   vp3-unrefused =
       ap fault_in (written-blocks cs threads placed few_changes few) ∙ no-fault (pos 0) (pos 0) threads (color_blocks cs) (omega arith) (omega arith) all_in
 
@@ -285,6 +284,6 @@ module _ (cs : List Cmd) (threads : List Color) (placed : place_outside cs ≡ f
   unfolding vp3_file vp3_opening joined begins same_bytes
   begins-so = refl
 
-  pub vp3-taken : verdict ((FileTooLong, ltb longest_file (length (vp3_file cs threads))) ∷ vp3_layout.refusals (vp3_file cs threads)) ≡ Accepted
+  pub vp3-taken : verdict ((FileTooLong, ltb longest_file (length (vp3_file cs threads))) ∷ vp3_layout.refusals (vp3_file cs threads)) ≡ Ok tt
   unfolding verdict row_of
   vp3-taken = rw (le-ltb 2097152 (length (vp3_file cs threads)) (omega (arith, most-vp3 cs threads few_changes, few)), begins-so, vp3-unrefused)

@@ -1,73 +1,67 @@
 -- A list written and read back, from what the two calls promise. Assumes nothing.
+use Rattle.std.specs.Prelude.{Some, Ok, Err, Option, Result, ⊤}
 use Prim.Native.Nat.{ℕ, ◌≤◌}
 use mathlib.Core.Path.{◌≡◌, refl, sym, ap, ◌∙◌}
 use mathlib.Core.List.{List, ◌++◌}
 use native.Mathlib.Omega.{arith}
 use lib.IntN.{ℤ}
 use lib.ListN.{length, take, drop, length-append, length-take}
-use Rattle.rules.specs.Files.{file_of, read_verdict, read_answer, read_number, read_counts, filled, file_told, write_verdict, write_answer, write_length}
+use Rattle.rules.specs.Files.{file_of, read_verdict, read_answer, read_counts, filled, file_told, write_verdict, write_answer, write_length}
 use Rattle.rules.specs.Lists.{commands}
 use Rattle.rules.specs.Promises.{Wrote, ReadOf, Room, WroteAndRead, or_then, round_trip_answer, round_trip_number, round_trip_counts}
-use Rattle.rules.specs.Refusals.{list_verdict}
+use Rattle.rules.specs.Refusals.{list_verdict, answer_number}
 use Rattle.rules.specs.declared.Counts.{Counts}
-use Rattle.rules.specs.declared.Extension.{Extension}
-use Rattle.rules.specs.declared.Extension.TheVariants.{Of}
 use Rattle.rules.specs.declared.Format.{Format}
 use Rattle.rules.specs.declared.Format.TheVariants.{Vp3}
-use Rattle.rules.specs.declared.ReadAnswer.{ReadAnswer}
-use Rattle.rules.specs.declared.ReadAnswer.TheVariants.{Read, Unread}
 use Rattle.rules.specs.declared.Refusal.{Refusal}
-use Rattle.rules.specs.declared.RoundTripAnswer.{RoundTripAnswer}
-use Rattle.rules.specs.declared.RoundTripAnswer.TheVariants.{NotWritten}
-use Rattle.rules.specs.declared.Verdict.{Verdict}
-use Rattle.rules.specs.declared.Verdict.TheVariants.{Accepted, Refused}
-use Rattle.rules.specs.declared.WriteAnswer.{WriteAnswer}
-use Rattle.rules.specs.declared.WriteAnswer.TheVariants.{Written, Unwritten}
+use Rattle.rules.specs.declared.RoundTripRefusal.TheVariants.{NotWritten}
 use Rattle.laws.specs.Verdicts.{never_both}
 use Rattle.sewing.specs.Calls.{RoundTrip, front, write-accepts, sewn}
 use Rattle.stitch_box.specs.Back.{back_answer, ReadBackOf}
+use Rattle.rules.specs.declared.Written.{Written}
+use Rattle.rules.specs.declared.RoundTripRefusal.{RoundTripRefusal}
 
 -- ---- what an answer says of the verdict
 
-apart : {n far : ℕ} {why : Refusal} → Written n far ≡ Unwritten why → ⊥
+apart : {w : Written} {why : Refusal} → ◌≡◌ {A = Result Written Refusal} (Ok w) (Err why) → ⊥
 apart e = let z : ◌≡◌ {A = ℕ} 0 1 = cc in omega arith
 
-length-of : {n far m far' : ℕ} → Written n far ≡ Written m far' → n ≡ m
+length-of : {w w' : Written} → ◌≡◌ {A = Result Written Refusal} (Ok w) (Ok w') → w.len ≡ w'.len
 unfolding write_length
 length-of e = ap write_length e
 
-why-of : {r s : Refusal} → Unwritten r ≡ Unwritten s → Refused r ≡ Refused s
-why-of e = cc
+why-of : {r s : Refusal} → ◌≡◌ {A = Result Written Refusal} (Err r) (Err s) → ◌≡◌ {A = Result ⊤ Refusal} (Err r) (Err s)
+why-of e = let z : ◌≡◌ {A = Refusal} _ _ = cc in ap Err z
 
-if-written : (v : Verdict) (far len n k : ℕ) → Written n k ≡ write_answer far v len → (v ≡ Accepted) × (n ≡ len)
+if-written : (v : Result ⊤ Refusal) (far len : ℕ) (w : Written) → Ok w ≡ write_answer far v len → (v ≡ Ok tt) × (w.len ≡ len)
 unfolding write_answer
-if-written Accepted far len n k e = (refl, length-of e)
-if-written (Refused r) far len n k e = absurd (apart e)
+if-written (Ok u) far len w e = (refl, length-of e)
+if-written (Err r) far len w e = absurd (apart e)
 
-if-unwritten : (v : Verdict) (far len : ℕ) (why : Refusal) → Unwritten why ≡ write_answer far v len → v ≡ Refused why
+if-unwritten : (v : Result ⊤ Refusal) (far len : ℕ) (why : Refusal) → Err why ≡ write_answer far v len → v ≡ Err why
 unfolding write_answer
-if-unwritten Accepted far len why e = absurd (apart (sym e))
-if-unwritten (Refused r) far len why e = sym (why-of e)
+if-unwritten (Ok u) far len why e = absurd (apart (sym e))
+if-unwritten (Err r) far len why e = sym (why-of e)
 
 -- ---- an answer of both calls
 
-number-back : (n : ℕ) (r : ReadAnswer) → round_trip_number (back_answer n r) ≡ read_number r
-unfolding round_trip_number back_answer read_number
-number-back n (Read c) = refl
-number-back n (Unread why) = refl
+number-back : (n : ℕ) (r : Result Counts Refusal) → round_trip_number (back_answer n r) ≡ answer_number r
+unfolding round_trip_number back_answer answer_number
+number-back n (Ok c) = refl
+number-back n (Err why) = refl
 
-counts-back : (n : ℕ) (r : ReadAnswer) → round_trip_counts (back_answer n r) ≡ read_counts r
+counts-back : (n : ℕ) (r : Result Counts Refusal) → round_trip_counts (back_answer n r) ≡ read_counts r
 unfolding round_trip_counts back_answer read_counts
-counts-back n (Read c) = refl
-counts-back n (Unread why) = refl
+counts-back n (Ok c) = refl
+counts-back n (Err why) = refl
 
-answer_back : (n : ℕ) (v : Verdict) (c : Counts) {len : ℕ} → n ≡ len → back_answer n (read_answer v c) ≡ round_trip_answer Accepted v len c
+answer_back : (n : ℕ) (v : Result ⊤ Refusal) (c : Counts) {len : ℕ} → n ≡ len → back_answer n (read_answer v c) ≡ round_trip_answer (Ok tt) v len c
 unfolding back_answer read_answer round_trip_answer
-answer_back n Accepted c e = rw e
-answer_back n (Refused r) c e = rw e
+answer_back n (Ok u) c e = rw e
+answer_back n (Err r) c e = rw e
 
-module _ {e : Extension} {name : List ℕ} {xs ys : List ℤ} {kinds threads d d' : List ℕ} {w : WriteAnswer} (p : Wrote e name xs ys kinds threads d d' w) where
-  abbrev says : Verdict
+module _ {e : Option Format} {name : List ℕ} {xs ys : List ℤ} {kinds threads d d' : List ℕ} {w : Result Written Refusal} (p : Wrote e name xs ys kinds threads d d' w) where
+  abbrev says : Result ⊤ Refusal
   says = write_verdict e name xs ys kinds threads (length d)
 
   abbrev file : List ℕ
@@ -75,9 +69,9 @@ module _ {e : Extension} {name : List ℕ} {xs ys : List ℤ} {kinds threads d d
 
   -- ---- the list is written
 
-  module _ {n far : ℕ} (is : w ≡ Written n far) where
-    accepted : (says ≡ Accepted) × (n ≡ length file)
-    accepted = if-written says _ (length file) n far (sym is ∙ p.answered)
+  module _ {n far : ℕ} (is : w ≡ Ok (record { len = n; distance = far })) where
+    accepted : (says ≡ Ok tt) × (n ≡ length file)
+    accepted = if-written says _ (length file) (record { len = n; distance = far }) (sym is ∙ p.answered)
 
     held : d' ≡ file ++ drop (length file) d
     unfolding filled
@@ -97,8 +91,8 @@ module _ {e : Extension} {name : List ℕ} {xs ys : List ℤ} {kinds threads d d
     unfolding write_length
     told-length = rw is
 
-    module _ {ps : List ℤ} {rs bs : List ℕ} {ps' : List ℤ} {rs' bs' : List ℕ} {a : RoundTripAnswer} (q : ReadBackOf e n (take n d') ps rs bs ps' rs' bs' a) where
-      abbrev reading : Verdict
+    module _ {ps : List ℤ} {rs bs : List ℕ} {ps' : List ℤ} {rs' bs' : List ℕ} {a : Result (ℕ × Counts) RoundTripRefusal} (q : ReadBackOf e n (take n d') ps rs bs ps' rs' bs' a) where
+      abbrev reading : Result ⊤ Refusal
       reading = read_verdict e file (length ps) (length rs) (length bs)
 
       -- the read was of the file
@@ -106,7 +100,7 @@ module _ {e : Extension} {name : List ℕ} {xs ys : List ℤ} {kinds threads d d
       read-too = rw the_file_lem at q.read
 
       -- both calls together
-      abbrev trip : (f : Format) → e ≡ Of f → list_verdict f xs ys kinds threads ≡ Accepted → Room f (file_of f name (commands xs ys kinds) threads) d ps rs bs → RoundTrip
+      abbrev trip : (f : Format) → e ≡ Some f → list_verdict f xs ys kinds threads ≡ Ok tt → Room f (file_of f name (commands xs ys kinds) threads) d ps rs bs → RoundTrip
       trip f n a m = record {
         format = f;
         extension = e;
@@ -133,7 +127,7 @@ module _ {e : Extension} {name : List ℕ} {xs ys : List ℤ} {kinds threads d d
       }
 
       -- the read back, in the answer of both
-      as_read_lem : round_trip_number a ≡ read_number q.answer
+      as_read_lem : round_trip_number a ≡ answer_number q.answer
       as_read_lem = ap round_trip_number q.told ∙ number-back n q.answer
 
       as-counted : round_trip_counts a ≡ read_counts q.answer
@@ -156,11 +150,11 @@ module _ {e : Extension} {name : List ℕ} {xs ys : List ℤ} {kinds threads d d
 
   -- ---- the list is refused
 
-  module _ {why : Refusal} (is : w ≡ Unwritten why) where
-    refused : says ≡ Refused why
+  module _ {why : Refusal} (is : w ≡ Err why) where
+    refused : says ≡ Err why
     refused = if-unwritten says _ (length file) why (sym is ∙ p.answered)
 
-    pub none : (ps : List ℤ) (rs bs : List ℕ) → WroteAndRead e name xs ys kinds threads d ps rs bs d' ps rs bs (NotWritten why)
+    pub none : (ps : List ℤ) (rs bs : List ℕ) → WroteAndRead e name xs ys kinds threads d ps rs bs d' ps rs bs (Err (NotWritten why))
     unfolding or_then round_trip_answer filled
     none ps rs bs = record {
       answered = rw refused;

@@ -1,7 +1,7 @@
 -- Buffers that hold what is read of any file of n bytes: n + 2 cells for places, n / 2 for runs and 3 n / 2 for blocks. A `read` with
 -- these is
 -- never refused by 11. Assumes nothing.
-use Rattle.std.specs.Prelude.{ℕ, ◌+◌, ◌*◌, ◌/◌, ◌≤◌, ◌≡◌, Bool, false, ℤ, pos, nat_abs, length, drop}
+use Rattle.std.specs.Prelude.{ℕ, ◌+◌, ◌*◌, ◌/◌, ◌≤◌, ◌≡◌, Bool, false, ℤ, pos, nat_abs, length, drop, Some, None, Ok, Err, Option, Result, ⊤}
 use Rattle.std.proofs.Common.{sym, ◌∙◌, ap}
 use mathlib.Core.List.{List, [], ◌∷◌, ◌++◌}
 use native.Mathlib.Omega.{arith}
@@ -14,20 +14,14 @@ use Rattle.rules.specs.Pec.{pec_events}
 use Rattle.rules.specs.Pes.{part_at}
 use Rattle.rules.specs.Jef.{jef_records}
 use Rattle.rules.specs.Vp3.{Blocks, cut, passed, stitch_events, strays, events_in, fault_in, row_of, vp3_blocks}
-use Rattle.rules.specs.Files.{events_of, colour_of, places_of, runs_of, blocks_of, file_refusals, no_room, read_verdict, read_answer, read_number}
+use Rattle.rules.specs.Files.{events_of, colour_of, places_of, runs_of, blocks_of, file_refusals, no_room, read_verdict, read_answer}
 use Rattle.rules.specs.Promises.{ReadOf}
-use Rattle.rules.specs.Refusals.{number_of, verdict}
+use Rattle.rules.specs.Refusals.{number_of, verdict, answer_number}
 use Rattle.rules.specs.declared.Counts.{Counts}
-use Rattle.rules.specs.declared.Extension.{Extension}
-use Rattle.rules.specs.declared.Extension.TheVariants.{Of, Unknown}
 use Rattle.rules.specs.declared.Format.{Format}
 use Rattle.rules.specs.declared.Format.TheVariants.{Pes, Pec, Dst, Exp, Jef, Vp3}
-use Rattle.rules.specs.declared.ReadAnswer.{ReadAnswer}
-use Rattle.rules.specs.declared.ReadAnswer.TheVariants.{Unread}
 use Rattle.rules.specs.declared.Refusal.{Refusal}
 use Rattle.rules.specs.declared.Refusal.TheVariants.{BufferTooShort}
-use Rattle.rules.specs.declared.Verdict.{Verdict}
-use Rattle.rules.specs.declared.Verdict.TheVariants.{Accepted, Refused}
 use Rattle.laws.specs.Tests.{by-test, pick-both}
 use Rattle.laws.specs.Vp3Fields.{blocks-all, file-all}
 use Rattle.read_passes.proofs.Bounds.{ample-fits}
@@ -50,9 +44,9 @@ fault-row s = row-of (fault_in (vp3_blocks s)) (file-all (λ (bs : Blocks). Smal
     (λ n t l. blocks-all (λ (bs : Blocks). Small (fault_in bs)) (λ e. omega arith) (λ e. omega arith) tt
     (λ x y c bytes bs h. pick-both Small (strays x y (stitch_events bytes)) (λ e. omega arith) h) n (pos 0) (pos 0) t))
   where
-    row-of : (v : Verdict) → Small v → Below (row_of v)
-    row-of Accepted h = tt
-    row-of (Refused r) h = (h, tt)
+    row-of : (v : Result ⊤ Refusal) → Small v → Below (row_of v)
+    row-of (Ok u) h = tt
+    row-of (Err r) h = (h, tt)
 
 module _ (s : List ℕ) (i j k : ℕ) (room : Ample (length s) i j k) where
   -- what is read of a part of the file fits
@@ -95,19 +89,19 @@ module _ (s : List ℕ) (i j k : ℕ) (room : Ample (length s) i j k) where
   small-then [] h = tt
   small-then (c ∷ cs) h = by-test c.1 (λ t. rw t h.0) (λ t. rw t (small-then cs h.1))
 
-  by-extension : (e : Extension) → Small (read_verdict e s i j k)
+  by-extension : (e : Option Format) → Small (read_verdict e s i j k)
   unfolding read_verdict verdict number_of
-  by-extension Unknown = λ e. omega arith
-  by-extension (Of f) = rw (enough f) (small-then (file_refusals f s) (below f))
+  by-extension None = λ e. omega arith
+  by-extension (Some f) = rw (enough f) (small-then (file_refusals f s) (below f))
 
-not-eleven : (v : Verdict) (c : Counts) (r : ReadAnswer) → Small v → r ≡ read_answer v c → r ≡ Unread BufferTooShort → ⊥
-unfolding read_answer read_number number_of
-not-eleven Accepted c r s e is = let z : ◌≡◌ {A = ℕ} 0 11 = ap read_number (sym e ∙ is) in omega (arith, z)
-not-eleven (Refused why) c r s e is = s (ap read_number (sym e ∙ is))
+not-eleven : (v : Result ⊤ Refusal) (c : Counts) (r : Result Counts Refusal) → Small v → r ≡ read_answer v c → r ≡ Err BufferTooShort → ⊥
+unfolding read_answer answer_number number_of
+not-eleven (Ok u) c r s e is = let z : ◌≡◌ {A = ℕ} 0 11 = ap answer_number (sym e ∙ is) in omega (arith, z)
+not-eleven (Err why) c r s e is = s (ap answer_number (sym e ∙ is))
 
-pub never-short : (e : Extension) (file : List ℕ) (places : List ℤ) (runs blocks : List ℕ) (places' : List ℤ) (runs' blocks' : List ℕ) (r : ReadAnswer)
+pub never-short : (e : Option Format) (file : List ℕ) (places : List ℤ) (runs blocks : List ℕ) (places' : List ℤ) (runs' blocks' : List ℕ) (r : Result Counts Refusal)
     → ReadOf e file places runs blocks places' runs' blocks' r
     → length file + 2 ≤ length places → length file / 2 ≤ length runs → 3 * length file / 2 ≤ length blocks
-    → r ≡ Unread BufferTooShort → ⊥
+    → r ≡ Err BufferTooShort → ⊥
 never-short e file places runs blocks places' runs' blocks' r p a b c is =
     not-eleven _ _ r (by-extension file (length places) (length runs) (length blocks) (record { places = a; runs = b; blocks = c }) e) p.answered is

@@ -1,13 +1,12 @@
 // The calls of the box. What each promises is a record of specs/Promises.antt of crate rules, for every input.
 #![tactic(auto)]
 
-ghost use Rattle.std.specs.Prelude.{◌≡◌, ◌≤◌, min};
+ghost use Rattle.std.specs.Prelude.{◌≡◌, ◌≤◌, min, Some};
 ghost use Rattle.rules.specs.Files.{label_told};
 ghost use Rattle.rules.specs.Hoop.{fits_told};
 ghost use Rattle.rules.specs.Jobs.{job_name_told};
 ghost use Rattle.rules.specs.Promises.{Wrote, bound_of, bound_told, ReadOf, ImportedOf, Exported};
 ghost use Rattle.rules.specs.Refusals.{extension_of};
-ghost use Rattle.rules.specs.declared.Extension.TheVariants.{Of};
 ghost use Rattle.stitch_box.specs.Back.{ReadBackOf, WritesAndReads};
 
 use dst::dst_from_stream;
@@ -16,12 +15,13 @@ use formats::extension_of;
 use jef::write_jef;
 use pes::{pes_from_stream, write_pec_file};
 use rules::{
-    DST_HEADER, ExportAnswer, Extension, FitsAnswer, Format, ImportAnswer, MOST_CHANGES,
-    MOST_COMMANDS, MOST_THREADS, ReadAnswer, Refusal, RoundTripAnswer, WriteAnswer,
+    Counts, DST_HEADER, Format, JobCounts, MOST_CHANGES, MOST_COMMANDS, MOST_THREADS, Refusal,
+    RoundTripRefusal, Written,
 };
 use vp3::write_vp3;
 
 // `write` in a format that is known. The order of the arms is for speed: the compiler puts all writers into this function.
+// Kept as a match: six arms, whose order is for speed.
 pub fn write_stitch_file(
     f: Format,
     name: &[u8],
@@ -30,8 +30,8 @@ pub fn write_stitch_file(
     kinds: &[u8],
     threads: &[u8],
     out: &mut [u8],
-) -> WriteAnswer
-    ensures { Wrote (Of f) name.now xs.now ys.now kinds.now threads.now out.old out.new result }
+) -> Result<Written, Refusal>
+    ensures { Wrote (Some f) name.now xs.now ys.now kinds.now threads.now out.old out.new result }
 {
     match f {
         Format::Dst => dst_from_stream(name, xs, ys, kinds, threads, out),
@@ -54,12 +54,11 @@ pub fn write(
     kinds: &[u8],
     threads: &[u8],
     out: &mut [u8],
-) -> WriteAnswer
+) -> Result<Written, Refusal>
     ensures { Wrote (extension_of ext.now) name.now xs.now ys.now kinds.now threads.now out.old out.new result }
 {
-    let named = extension_of(ext);
-    let Extension::Of(f) = named else {
-        return WriteAnswer::Unwritten(Refusal::UnknownExtension);
+    let Some(f) = extension_of(ext) else {
+        return Err(Refusal::UnknownExtension);
     };
     write_stitch_file(f, name, xs, ys, kinds, threads, out)
 }
@@ -90,11 +89,11 @@ fn bound_of(f: Format, n: usize, t: usize) -> usize
 
 // Cells that hold the file of any list of so many commands and threads that `write` takes under an extension; 0 under an unknown one.
 // Longer lists and more threads are refused, and count as the most that are taken.
+// Kept as a number under an unknown extension: the C interface, and `bound_told` says 0.
 pub fn write_bound(ext: &[u8], commands: usize, threads: usize) -> usize
     ensures { result ≡ bound_told (extension_of ext.now) commands threads }
 {
-    let named = extension_of(ext);
-    let Extension::Of(f) = named else {
+    let Some(f) = extension_of(ext) else {
         return 0;
     };
     bound_of(
@@ -112,7 +111,7 @@ pub fn read(
     places: &mut [i32],
     runs: &mut [u32],
     blocks: &mut [u32],
-) -> ReadAnswer
+) -> Result<Counts, Refusal>
     ensures { ReadOf (extension_of ext.now) file.now places.old runs.old blocks.old places.new runs.new blocks.new result }
 {
     read::read(ext, file, places, runs, blocks)
@@ -127,7 +126,14 @@ pub fn label<'a>(ext: &[u8], file: &'a [u8]) -> &'a [u8]
 
 // Whether every place of every run of a file has x from left to right and y from top to bottom, edges included, without a buffer; or why
 // the file is refused, by every refusal of reading but 11. A file without runs is a yes.
-pub fn fits(ext: &[u8], file: &[u8], left: i32, right: i32, top: i32, bottom: i32) -> FitsAnswer
+pub fn fits(
+    ext: &[u8],
+    file: &[u8],
+    left: i32,
+    right: i32,
+    top: i32,
+    bottom: i32,
+) -> Result<bool, Refusal>
     ensures { result ≡ fits_told (extension_of ext.now) file.now (record { left = left; right = right; top = top; bottom = bottom }) }
 {
     hoop::fits(ext, file, left, right, top, bottom)
@@ -141,13 +147,13 @@ fn read_back(
     places: &mut [i32],
     runs: &mut [u32],
     blocks: &mut [u32],
-) -> RoundTripAnswer
+) -> Result<(usize, Counts), RoundTripRefusal>
     ensures { ReadBackOf (extension_of ext.now) n file.now places.old runs.old blocks.old places.new runs.new blocks.new result }
 {
     let told = read(ext, file, places, runs, blocks);
     match told {
-        ReadAnswer::Read(c) => RoundTripAnswer::ReadBack(n, c),
-        ReadAnswer::Unread(why) => RoundTripAnswer::NotRead(n, why),
+        Ok(c) => Ok((n, c)),
+        Err(why) => Err(RoundTripRefusal::NotRead(n, why)),
     }
 }
 
@@ -165,13 +171,13 @@ pub fn write_and_read(
     places: &mut [i32],
     runs: &mut [u32],
     blocks: &mut [u32],
-) -> RoundTripAnswer
+) -> Result<(usize, Counts), RoundTripRefusal>
     ensures { WritesAndReads (extension_of ext.now) name.now xs.now ys.now kinds.now threads.now file places runs blocks result }
 {
     let written = write(ext, name, xs, ys, kinds, threads, file);
     match written {
-        WriteAnswer::Written(n, _) => read_back(n, ext, &file[..n], places, runs, blocks),
-        WriteAnswer::Unwritten(why) => RoundTripAnswer::NotWritten(why),
+        Ok(Written { len: n, .. }) => read_back(n, ext, &file[..n], places, runs, blocks),
+        Err(why) => Err(RoundTripRefusal::NotWritten(why)),
     }
 }
 
@@ -183,7 +189,7 @@ pub fn import_job(
     ys: &mut [i32],
     kinds: &mut [u8],
     threads: &mut [u8],
-) -> ImportAnswer
+) -> Result<JobCounts, Refusal>
     ensures { ImportedOf job.now xs.old ys.old kinds.old threads.old xs.new ys.new kinds.new threads.new result }
 {
     import_job::import_job(job, xs, ys, kinds, threads)
@@ -205,7 +211,7 @@ pub fn export_job(
     kinds: &[u8],
     threads: &[u8],
     out: &mut [u8],
-) -> ExportAnswer
+) -> Result<usize, Refusal>
     ensures { Exported name.now xs.now ys.now kinds.now threads.now out.old out.new result }
 {
     export_job::export_job(name, xs, ys, kinds, threads, out)

@@ -2,26 +2,24 @@
 #![tactic(auto)]
 
 ghost use Rattle.std.specs.Prelude.{◌≡◌};
-ghost use Rattle.rules.specs.Files.{read_number, read_counts, write_number, write_length, write_distance};
-ghost use Rattle.rules.specs.Hoop.{fits_number, fits_bit};
-ghost use Rattle.rules.specs.Jobs.{import_number, import_counts, export_number, export_length};
+ghost use Rattle.rules.specs.Files.{read_counts, write_length, write_distance};
+ghost use Rattle.rules.specs.Hoop.{fits_bit};
+ghost use Rattle.rules.specs.Jobs.{import_counts, export_length};
 ghost use Rattle.rules.specs.Promises.{WroteNumbers, bound_told, LabelNumbers, JobNameNumbers, ExportedNumbers};
-ghost use Rattle.rules.specs.Refusals.{extension_of};
-ghost use Rattle.stitch_box_c.specs.Exports.{label_number, label_start, label_length, ReadsNumbers, WroteCmdsNumbers, FitsByNumbers, ImportsNumbers};
+ghost use Rattle.rules.specs.Refusals.{extension_of, answer_number};
+ghost use Rattle.stitch_box_c.specs.Exports.{label_start, label_length, ReadsNumbers, WroteCmdsNumbers, FitsByNumbers, ImportsNumbers};
 
-use read_refusals::LabelAnswer;
-use rules::{
-    Cmd, Counts, ExportAnswer, FitsAnswer, ImportAnswer, JobCounts, ReadAnswer, WriteAnswer,
-};
+use read_header::Span;
+use rules::{Cmd, Counts, JobCounts, Refusal, Written};
 use write_refusals::number;
 
 // The four counts of an answer, 0 under a refusal.
-fn counts_of(answer: ReadAnswer) -> Counts
+fn counts_of(answer: Result<Counts, Refusal>) -> Counts
     ensures { result ≡ read_counts answer }
 {
     match answer {
-        ReadAnswer::Read(c) => c,
-        ReadAnswer::Unread(_) => Counts {
+        Ok(c) => c,
+        Err(_) => Counts {
             points: 0,
             runs: 0,
             blocks: 0,
@@ -31,12 +29,13 @@ fn counts_of(answer: ReadAnswer) -> Counts
 }
 
 // The number of an answer, 0 without a refusal.
-fn read_number(answer: ReadAnswer) -> u32
-    ensures { result ≡ read_number answer }
+#[tactic(auto, unfolding(rules::specs::Refusals::answer_number))]
+fn answer_number<T: Copy>(answer: Result<T, Refusal>) -> u32
+    ensures { result ≡ answer_number answer }
 {
     match answer {
-        ReadAnswer::Read(_) => 0,
-        ReadAnswer::Unread(why) => number(why),
+        Ok(_) => 0,
+        Err(why) => number(why),
     }
 }
 
@@ -61,20 +60,21 @@ pub extern "C" fn stitch_box_read(
     *run_count = c.runs;
     *block_count = c.blocks;
     *cut_count = c.cuts;
-    read_number(answer)
+    answer_number(answer)
 }
 
 // The number of an answer, the label's place being put: its start and its length, or the refusal's number and zeros.
-fn put_label(answer: LabelAnswer, start: &mut u64, len: &mut u64) -> u32
-    ensures { (result ≡ label_number answer) × (start.new ≡ label_start answer) × (len.new ≡ label_length answer) }
+#[tactic(auto, unfolding(rules::specs::Refusals::answer_number))]
+fn put_label(answer: Result<Span, Refusal>, start: &mut u64, len: &mut u64) -> u32
+    ensures { (result ≡ answer_number answer) × (start.new ≡ label_start answer) × (len.new ≡ label_length answer) }
 {
     match answer {
-        LabelAnswer::Found(p) => {
+        Ok(p) => {
             *start = p.start as u64;
             *len = p.len as u64;
             0
         }
-        LabelAnswer::Not(why) => {
+        Err(why) => {
             *start = 0;
             *len = 0;
             number(why)
@@ -97,20 +97,20 @@ pub extern "C" fn stitch_box_label(
 }
 
 // The number of an answer, 1 being put for yes: 0 and 1 or 0, or the refusal's number and 0.
-#[tactic(auto, unfolding(rules::specs::Hoop::fits_number, rules::specs::Hoop::fits_bit))]
-fn put_fits(answer: FitsAnswer, yes: &mut u32) -> u32
-    ensures { (result ≡ fits_number answer) × (yes.new ≡ fits_bit answer) }
+#[tactic(auto, unfolding(rules::specs::Refusals::answer_number, rules::specs::Hoop::fits_bit))]
+fn put_fits(answer: Result<bool, Refusal>, yes: &mut u32) -> u32
+    ensures { (result ≡ answer_number answer) × (yes.new ≡ fits_bit answer) }
 {
     match answer {
-        FitsAnswer::Yes => {
+        Ok(true) => {
             *yes = 1;
             0
         }
-        FitsAnswer::No => {
+        Ok(false) => {
             *yes = 0;
             0
         }
-        FitsAnswer::Unread(why) => {
+        Err(why) => {
             *yes = 0;
             number(why)
         }
@@ -135,16 +135,21 @@ pub extern "C" fn stitch_box_fits(
 }
 
 // The number of an answer, its length and distance being put: 0 and these, or the refusal's number and zeros.
-fn put_written(answer: WriteAnswer, length: &mut u64, distance: &mut u32) -> u32
-    ensures { (result ≡ write_number answer) × (length.new ≡ write_length answer) × (distance.new ≡ write_distance answer) }
+fn put_written(answer: Result<Written, Refusal>, length: &mut u64, distance: &mut u32) -> u32
+    ensures { (result ≡ answer_number answer) × (length.new ≡ write_length answer) × (distance.new ≡ write_distance answer) }
 {
     match answer {
-        WriteAnswer::Written(n, far) => {
+        Ok(
+            Written {
+                len: n,
+                distance: far,
+            },
+        ) => {
             *length = n as u64;
             *distance = far;
             0
         }
-        WriteAnswer::Unwritten(why) => {
+        Err(why) => {
             *length = 0;
             *distance = 0;
             number(why)
@@ -199,25 +204,15 @@ pub extern "C" fn stitch_box_write_bound(ext: &[u8], commands: usize, threads: u
 }
 
 // The two counts of an import, 0 under a refusal.
-fn job_counts(answer: ImportAnswer) -> JobCounts
+fn job_counts(answer: Result<JobCounts, Refusal>) -> JobCounts
     ensures { result ≡ import_counts answer }
 {
     match answer {
-        ImportAnswer::Imported(n) => n,
-        ImportAnswer::NotImported(_) => JobCounts {
+        Ok(n) => n,
+        Err(_) => JobCounts {
             commands: 0,
             thread_bytes: 0,
         },
-    }
-}
-
-// The number of an import, 0 without a refusal.
-fn import_number(answer: ImportAnswer) -> u32
-    ensures { result ≡ import_number answer }
-{
-    match answer {
-        ImportAnswer::Imported(_) => 0,
-        ImportAnswer::NotImported(why) => number(why),
     }
 }
 
@@ -238,7 +233,7 @@ pub extern "C" fn stitch_box_import_job(
     let n = job_counts(answer);
     *command_count = n.commands;
     *thread_bytes = n.thread_bytes;
-    import_number(answer)
+    answer_number(answer)
 }
 
 // `job_name`, as a place in the job: where it starts and its length, both 0 under a refusal.
@@ -251,15 +246,15 @@ pub extern "C" fn stitch_box_job_name(job: &[u8], start: &mut u64, length: &mut 
 }
 
 // The number of an export, its length being put: 0 and the length, or the refusal's number and 0.
-fn put_exported(answer: ExportAnswer, size: &mut u64) -> u32
-    ensures { (result ≡ export_number answer) × (size.new ≡ export_length answer) }
+fn put_exported(answer: Result<usize, Refusal>, size: &mut u64) -> u32
+    ensures { (result ≡ answer_number answer) × (size.new ≡ export_length answer) }
 {
     match answer {
-        ExportAnswer::Exported(n) => {
+        Ok(n) => {
             *size = n as u64;
             0
         }
-        ExportAnswer::NotExported(why) => {
+        Err(why) => {
             *size = 0;
             number(why)
         }

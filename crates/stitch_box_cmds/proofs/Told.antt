@@ -1,4 +1,5 @@
 -- What the three calls of `write_cmds_as` say, together: what the write of the records is owed. Assumes nothing.
+use Rattle.std.specs.Prelude.{Some, Err, Result, ⊤}
 use Prim.Native.Nat.{ℕ, ◌+◌, ◌≤◌, ◌<◌}
 use mathlib.Core.Path.{◌≡◌, refl, sym, ◌∙◌, ap, subst}
 use mathlib.Core.Bool.{Bool, true, false, ◌||◌}
@@ -17,13 +18,11 @@ use Rattle.rules.specs.Promises.{xs_of, ys_of, kinds_of, Wrote}
 use Rattle.rules.specs.Refusals.{bad_list, list_refusals, verdict}
 use Rattle.rules.specs.Vocabulary.{pick}
 use Rattle.rules.specs.declared.Cmd.{Cmd}
-use Rattle.rules.specs.declared.Extension.TheVariants.{Of}
 use Rattle.rules.specs.declared.Format.{Format}
 use Rattle.rules.specs.declared.Refusal.TheVariants.{BadList}
-use Rattle.rules.specs.declared.Verdict.{Verdict}
-use Rattle.rules.specs.declared.Verdict.TheVariants.{Refused}
-use Rattle.rules.specs.declared.WriteAnswer.{WriteAnswer}
 use Rattle.stitch_box_cmds.specs.Records.{FrontBy, WroteFront}
+use Rattle.rules.specs.declared.Refusal.{Refusal}
+use Rattle.rules.specs.declared.Written.{Written}
 
 -- all of the list is unpacked: its numbers stand at the front
 front : {B : Type 0} (f : Cmd → B) (l z : List B) (cs : List Cmd) (m : ℕ)
@@ -50,9 +49,9 @@ picked true x y h = refl
 picked false x y h = false-true h
 
 refused : (f : Format) (name : List ℕ) (xs ys : List ℤ) (ks threads : List ℕ) (n : ℕ)
-    → bad_list xs ys ks ≡ true → write_verdict (Of f) name xs ys ks threads n ≡ Refused BadList
+    → bad_list xs ys ks ≡ true → write_verdict (Some f) name xs ys ks threads n ≡ Err BadList
 unfolding write_verdict list_refusals verdict
-refused f name xs ys ks threads n h = picked (bad_list xs ys ks) (Refused BadList) _ h
+refused f name xs ys ks threads n h = picked (bad_list xs ys ks) (Err BadList) _ h
 
 -- ---- the three calls
 -- what `fitting` says of m, and `unpack` of what the arrays held and of what it left in them
@@ -62,13 +61,13 @@ Fits cs m = (m ≡ pick (ltb 65535 (length cs)) 0 (length cs)) × (m ≤ length 
 abbrev pub Unpacked : List Cmd → ℕ → List ℤ → List ℤ → List ℕ → List ℤ → List ℤ → List ℕ → Type 0
 Unpacked cs m xs ys ks x y k = (x ≡ sets xs 0 (xs_of (take m cs))) × (y ≡ sets ys 0 (ys_of (take m cs))) × (k ≡ sets ks 0 (kinds_of (take m cs)))
 
-module _ (f : Format) (name : List ℕ) (cs : List Cmd) (threads os o : List ℕ) (w : WriteAnswer) where
+module _ (f : Format) (name : List ℕ) (cs : List Cmd) (threads os o : List ℕ) (w : Result Written Refusal) where
   abbrev file : List ℕ
-  file = file_told (Of f) name (commands (xs_of cs) (ys_of cs) (kinds_of cs)) threads
+  file = file_told (Some f) name (commands (xs_of cs) (ys_of cs) (kinds_of cs)) threads
 
   -- what the write owes
   abbrev pub Owed : Type 0
-  Owed = Wrote (Of f) name (xs_of cs) (ys_of cs) (kinds_of cs) threads os o w
+  Owed = Wrote (Some f) name (xs_of cs) (ys_of cs) (kinds_of cs) threads os o w
 
   module _ (m : ℕ) (xs ys : List ℤ) (ks : List ℕ) (x y : List ℤ) (k : List ℕ)
       (room : (m ≤ length xs) × (m ≤ length ys) × (m ≤ length ks)) (u : Unpacked cs m xs ys ks x y k) where
@@ -83,8 +82,8 @@ module _ (f : Format) (name : List ℕ) (cs : List Cmd) (threads os o : List ℕ
         let v = refused f name (xs_of cs) (ys_of cs) (kinds_of cs) threads (length os) (too_many_lem (xs_of cs) (ys_of cs) (kinds_of cs)
         (ap (ltb 65535) (length-map cs (λ (c : Cmd). c.kind)) ∙ lt-ltb 65535 (length cs) h)) in
         record {
-          answered = subst (λ (r : Verdict). w ≡ write_answer (distance_told (Of f) threads) r (length file)) (sym v) q.0;
-          stored = subst (λ (r : Verdict). o ≡ filled r file os) (sym v) q.1;
+          answered = subst (λ (r : Result ⊤ Refusal). w ≡ write_answer (distance_told (Some f) threads) r (length file)) (sym v) q.0;
+          stored = subst (λ (r : Result ⊤ Refusal). o ≡ filled r file os) (sym v) q.1;
         }
 
     -- all are unpacked: the arrays begin with the list's columns

@@ -55,7 +55,7 @@ stepped {r} h e p q = ret w32 r h ∙ e ∙ rw (to_z-of_z p, to_z-of_z q)
 
 -- what is known of it: it is small where the difference of the places is
 pub near_step : (a b : ℤ) (n : ℕ) → SFits w32 a → SFits w32 b → nat_abs (a -ℤ b) ≤ n → n ≤ 2048
-    → nat_abs (to_z w32 (of_z w32 a) -ℤ to_z w32 (of_z w32 b)) ≤ 2048
+    → nat_abs (to_z w32 (of_z w32 a) -ℤ to_z w32 (of_z w32 b)) < 2 ^ 31
 near_step a b n p q h l = rw (to_z-of_z p, to_z-of_z q) (omega arith)
 
 pub stepped-small : (r a b : ℤ) (n : ℕ) → mag r < 2 ^ hbits w32 → r ≡ to_z w32 (of_z w32 a) -ℤ to_z w32 (of_z w32 b) → SFits w32 a → SFits w32 b

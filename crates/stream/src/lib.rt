@@ -5,7 +5,7 @@
 pub mod pairs;
 pub mod triples;
 
-ghost use Rattle.std.specs.Prelude.{◌≡◌, false, ◌+◌, ◌≤◌, eqb, pos, nat_abs, ◌-ℤ◌, length, take};
+ghost use Rattle.std.specs.Prelude.{◌≡◌, false, ◌+◌, ◌≤◌, pos, length, take};
 ghost use Rattle.rules.specs.Vocabulary.{pick, count};
 ghost use Rattle.rules.specs.Lists.{commands, written};
 ghost use Rattle.rules.specs.Refusals.{step_too_long};
@@ -16,21 +16,6 @@ use crate::pairs::put_pairs;
 use crate::triples::put_triples;
 use formats::list_len;
 use stream_cmd::Stream;
-
-// A step on one axis, between two places that are near each other.
-fn step(from: i32, to: i32) -> i32
-    requires { nat_abs (to -ℤ from) ≤ 2048 }
-    ensures { result ≡ to -ℤ from }
-{
-    to - from
-}
-
-// Whether two kinds are both 0, a stitch, by one test.
-fn are_stitches(a: u8, b: u8) -> bool
-    ensures { result ≡ eqb (a + b) 0 }
-{
-    (a as u16) + (b as u16) == 0
-}
 
 // 1 for a kind from lo to hi, and 0 for any other.
 fn is_in(lo: u8, hi: u8, kind: u8) -> u16
@@ -48,10 +33,8 @@ fn kinds_in(lo: u8, hi: u8, kinds: &[u8], n: usize) -> usize
     ensures { (result ≡ count (kind_in lo hi) (take n kinds.now)) × (result ≤ n) }
 {
     let mut found: u16 = 0;
-    let mut i = 0;
-    while i < n {
+    for i in 0..n {
         found += is_in(lo, hi, kinds[i]);
-        i += 1;
     }
     found as usize
 }

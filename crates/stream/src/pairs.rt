@@ -7,8 +7,8 @@ ghost use Rattle.stream_cmd.specs.declared.Stream.TheVariants.{Exp};
 ghost use Rattle.laws.specs.Buffers.{Puts};
 ghost use Rattle.stream_cmd.specs.Cmds.{cmd_of, pair_stream, Step, Ready, StepAt, bytes_at};
 
-use crate::{are_stitches, step};
-use formats::{list_len, op_of};
+use formats::{are_stitches, list_len, op_of};
+use geom::step;
 use stream_cmd::pairs::{pair_cmd, put_pair};
 
 // Two stitches, from (x, y) to (nx, ny) and on to (mx, my).
@@ -65,6 +65,7 @@ pub fn put_pairs(
     let mut y: i32 = 0;
     let mut to = at;
     let mut i = 0;
+    // Kept as while: a turn goes on by one command or by two.
     while i + 1 < n {
         let j = i + 1;
         if are_stitches(kinds[i], kinds[j]) {

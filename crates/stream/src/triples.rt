@@ -8,8 +8,8 @@ ghost use Rattle.rules.specs.declared.Op.TheVariants.{Stitch};
 ghost use Rattle.laws.specs.Buffers.{Puts};
 ghost use Rattle.stream_cmd.specs.Cmds.{Step, Ready, StepAt, bytes_at, Tables};
 
-use crate::{are_stitches, step};
-use formats::{list_len, op_of};
+use formats::{are_stitches, list_len, op_of};
+use geom::step;
 use stream_cmd::triples::{dst_cmd, put_move, table};
 
 // Two stitches, from (x, y) to (nx, ny) and on to (mx, my).
@@ -83,6 +83,7 @@ fn put_records(
     let mut y: i32 = 0;
     let mut to = at;
     let mut i = 0;
+    // Kept as while: a turn goes on by one command or by two.
     while i + 1 < n {
         let j = i + 1;
         if are_stitches(kinds[i], kinds[j]) {

@@ -8,17 +8,10 @@ ghost use Rattle.stream_cmd.specs.declared.Stream.TheVariants.{Exp, Jef};
 ghost use Rattle.laws.specs.Buffers.{Puts};
 ghost use Rattle.stream_cmd.specs.Cmds.{cmd_of, pair_stream, Step};
 
-use emit::{put2, put4};
+use emit::{low_byte, put2, put4};
 use rules::Op;
 
-// A small number in two's complement.
-fn low_byte(z: i32) -> u8
-    requires { nat_abs z ≤ 127 }
-    ensures { result ≡ bits_of 7 z }
-{
-    (((z + 256) as u32) % 256) as u8
-}
-
+// The negative of a small number in two's complement.
 fn minus_byte(z: i32) -> u8
     requires { nat_abs z ≤ 127 }
     ensures { result ≡ bits_of 7 (neg_ℤ z) }

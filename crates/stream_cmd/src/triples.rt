@@ -1,6 +1,6 @@
 // DST: signed digits of weight 81, 27, 9, 3, 1 on each axis.
 // A port of src/formats/dst.rs of zigzag, changed.
-ghost use Rattle.std.specs.Prelude.{◌≡◌, ◌+◌, ◌≤◌, ◌<◌, pos, nat_abs, neg_ℤ, ◌+ℤ◌, ◌-ℤ◌, length};
+ghost use Rattle.std.specs.Prelude.{◌≡◌, ◌+◌, ◌≤◌, ◌<◌, pos, nat_abs, neg_ℤ, ◌+ℤ◌, length};
 ghost use Rattle.rules.specs.Vocabulary.{from_little};
 ghost use Rattle.rules.specs.Dst.{digit, rest, pair, dst_bytes, dst_cmd};
 ghost use Rattle.stream_cmd.specs.declared.Stream.TheVariants.{Dst};
@@ -124,7 +124,7 @@ fn packed(dx: i32, dy: i32) -> u32
     ensures { result ≡ from_little (dst_bytes 0 dx (neg_ℤ dy)) }
 {
     let r = encode_record(0, dx, dy);
-    (r[0] as u32) + 256 * (r[1] as u32) + 65536 * (r[2] as u32)
+    u32::from_le_bytes([r[0], r[1], r[2], 0])
 }
 
 // The bits of the step t - 121 along x, or else of 121 - t along y.
@@ -144,10 +144,8 @@ pub fn table(wide: bool) -> [u32; 243]
     ensures { Parts wide result }
 {
     let mut parts = [0u32; 243];
-    let mut t = 0;
-    while t < 243 {
+    for t in 0..243 {
         parts[t] = part(wide, t);
-        t += 1;
     }
     parts
 }
@@ -158,14 +156,6 @@ fn raised(z: i32) -> usize
     ensures { pos result ≡ z +ℤ pos 121 }
 {
     (z + 121) as usize
-}
-
-// That of its negative.
-fn lowered(z: i32) -> usize
-    requires { nat_abs z ≤ 121 }
-    ensures { pos result ≡ pos 121 -ℤ z }
-{
-    (121 - z) as usize
 }
 
 // A record put together from its parts.
@@ -183,7 +173,7 @@ pub fn put_move(
     requires at_in_bounds { at + 3 ≤ length out.old }
     ensures { Puts out at result (dst_bytes kind dx (neg_ℤ dy)) }
 {
-    let v = 65536 * kind + wide[raised(dx)] + high[lowered(dy)];
+    let v = 65536 * kind + wide[raised(dx)] + high[raised(0 - dy)];
     put_three(out, at, v)
 }
 

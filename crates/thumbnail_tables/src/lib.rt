@@ -58,15 +58,6 @@ fn place(from: i32, i: usize) -> i32
     from + (i as i32)
 }
 
-fn lesser(a: usize, b: usize) -> usize
-    ensures { (result ≤ a) × (result ≤ b) }
-{
-    if a < b {
-        return a;
-    }
-    b
-}
-
 fn is_above_zero(x: f64) -> bool
     ensures { result ≡ lt (from_bits binary64 0) x }
 {
@@ -98,7 +89,7 @@ fn stretch(scale: f64, t: f64, z: i32, most: usize, p: usize) -> usize
     if 48 <= p {
         return 1;
     }
-    let far = lesser(reach(scale, scaled(z, scale, t), p), most);
+    let far = reach(scale, scaled(z, scale, t), p).min(most);
     if far <= 1 {
         return 1;
     }
@@ -116,10 +107,8 @@ fn fill_same(table: &mut [u16], i: usize, j: usize, v: u16)
     requires { (i ≤ j) × (j ≤ length table.old) }
     ensures { table.new ≡ sets table.old i (replicate (j - i) v) }
 {
-    let mut k = i;
-    while k < j {
+    for k in i..j {
         table[k] = v;
-        k += 1;
     }
 }
 
@@ -129,6 +118,7 @@ fn fill(down: bool, scale: f64, t: f64, from: i32, n: usize, table: &mut [u16])
     ensures { (length table.new ≡ length table.old) × Filled down scale t from n table.new }
 {
     let mut i = 0;
+    // Kept as while: each turn goes on by a whole stretch.
     while i < n {
         let z = place(from, i);
         let p = floor(scaled(z, scale, t));
@@ -191,18 +181,15 @@ fn draw_looked(
     let mut icon = pec_icon_blank();
     let mut block = pec_icon_blank();
     let mut to = at + 228;
-    let mut i = 0;
-    while i < n {
+    for i in 0..n {
         let kind = kinds[i];
         if kind == 0 {
             let x = index_of(left, xs[i]);
             let y = index_of(top, ys[i]);
             set_bit(&mut icon, columns[x], rows[y]);
             set_bit(&mut block, bcolumns[x], brows[y]);
-            i += 1;
             continue;
         }
-        i += 1;
         if kind == 3 {
             to = put_rows(&block, out, to);
             block = pec_icon_blank();

@@ -130,11 +130,9 @@ fn draw_scaled(s: Scale, xs: &[i32], ys: &[i32], kinds: &[u8], from: usize, to: 
 {
     let mut icon = pec_icon_blank();
     let mut last = no_cell();
-    let mut i = from;
-    while i < to {
+    for i in from..to {
         let next = mark(s, &mut icon, last, op_of(kinds[i]), xs[i], ys[i]);
         last = next;
-        i += 1;
     }
     icon
 }
@@ -154,14 +152,12 @@ fn block_end(xs: &[i32], ys: &[i32], kinds: &[u8], from: usize) -> usize
     ensures { result ≡ from + change_from (drop from (commands xs.now ys.now kinds.now)) }
 {
     let n = list_len(xs, ys, kinds);
-    let mut i = from;
-    while i < n {
+    for i in from..n {
         if is_change(op_of(kinds[i])) {
             return i;
         }
-        i += 1;
     }
-    i
+    n
 }
 
 fn put_icon(icon: [u8; 228], out: &mut [u8], at: usize) -> usize
@@ -179,6 +175,7 @@ fn put_blocks(s: Scale, xs: &[i32], ys: &[i32], kinds: &[u8], out: &mut [u8], at
     let n = list_len(xs, ys, kinds);
     let mut from = 0;
     let mut to = at;
+    // Kept as while: each turn goes on by a whole block.
     while from <= n {
         let end = block_end(xs, ys, kinds, from);
         to = put_icon(draw_scaled(s, xs, ys, kinds, from, end), out, to);

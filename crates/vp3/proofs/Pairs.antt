@@ -1,5 +1,5 @@
 -- A scan by two stitches at once, and its last command. Assumes nothing.
-use Prim.Native.Nat.{ℕ, ◌+◌, ◌≤◌, ◌<◌}
+use Prim.Native.Nat.{ℕ, ◌+◌, ◌^◌, ◌≤◌, ◌<◌}
 use mathlib.Core.Path.{◌≡◌, refl, ap, ◌∙◌}
 use mathlib.Core.List.{List}
 use native.Mathlib.Omega.{arith}
@@ -12,7 +12,7 @@ use Rattle.rules.specs.Lists.{op_of, commands}
 use Rattle.rules.specs.Vp3.{stitch_of, vp3_cmd, last_stitch, stitches_from}
 use Rattle.rules.specs.declared.Op.{Op}
 use Rattle.rules.specs.declared.Op.TheVariants.{Stitch, Jump, Trim, ColorChange, End}
-use Rattle.laws.specs.Places.{Small}
+use Rattle.laws.specs.Places.{Small, apart}
 use Rattle.laws.specs.Listing.{cmd_at}
 use Rattle.vp3.specs.Blocks.{Scanned, Rest}
 use Rattle.vp3.specs.declared.blocks.Scan.{Scan}
@@ -20,8 +20,16 @@ use Rattle.vp3.proofs.Numbers.{read, back-small}
 use Rattle.vp3.proofs.Stitches.{Scanning, Here, Moves, Turn, read_at, stitch-more, scan-on}
 
 -- a step, as the code has it
-pub stepped : {a b d : ℤ} → SFits w32 a → SFits w32 b → (d ≡ read a -ℤ read b) × (nat_abs d ≤ 32000) → read d ≡ a -ℤ b
-stepped {d = d} f g e = back-small d (omega (arith, e.1)) ∙ (rw (to_z-of_z f, to_z-of_z g) at e.0)
+pub stepped : {a b d : ℤ} → SFits w32 a → SFits w32 b → Small a → Small b → d ≡ read a -ℤ read b → (read d ≡ a -ℤ b) × (nat_abs (read d) ≤ 32767)
+stepped {a} {b} {d} f g h k e =
+    let is : d ≡ a -ℤ b = rw (to_z-of_z f, to_z-of_z g) at e in
+    let near = apart a b h k in
+    let back : read d ≡ d = back-small d (rw is (omega (arith, near))) in
+    (back ∙ is, rw (back, is) (omega (arith, near)))
+
+-- what is asked of it
+pub step-room : (a b : ℤ) → SFits w32 a → SFits w32 b → Small a → Small b → nat_abs (read a -ℤ read b) < 2 ^ 31
+step-room a b f g h k = rw (to_z-of_z f, to_z-of_z g) (omega (arith, apart a b h k))
 
 -- ---- the turn of a stitch, by the two places, and of any command
 

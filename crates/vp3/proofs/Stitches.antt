@@ -1,5 +1,5 @@
 -- One turn of a loop over the commands of a block: a stitch, or another command. Assumes nothing.
-use Prim.Native.Nat.{ℕ, zero, suc, ◌+◌, ◌*◌, ◌≤◌, ◌<◌}
+use Prim.Native.Nat.{ℕ, zero, suc, ◌+◌, ◌*◌, ◌^◌, ◌≤◌, ◌<◌}
 use mathlib.Core.Path.{◌≡◌, refl, ap, ◌∙◌}
 use mathlib.Core.Bool.{true, false}
 use mathlib.Core.List.{List, ◌∷◌, ◌++◌}
@@ -11,7 +11,7 @@ use Rattle.rules.specs.Refusals.{place_outside}
 use Rattle.rules.specs.Vp3.{stitch_of, vp3_cmd, last_stitch, stitches_from}
 use Rattle.rules.specs.declared.Cmd.{Cmd}
 use Rattle.laws.specs.Vp3Lengths.{stitches-length}
-use Rattle.laws.specs.Places.{Small, Within, every}
+use Rattle.laws.specs.Places.{Small, Within, every, apart}
 use Rattle.laws.specs.Listing.{cmd_at, commands-at, commands-more}
 use Rattle.laws.specs.Buffers.{Put, Writing, writing_start, writing-room, writing_more, writing-done}
 use Rattle.vp3.specs.Blocks.{between, Scanned}
@@ -85,19 +85,25 @@ pub record Moves (xs ys : List ℤ) (i : ℕ) (px py dx dy : ℤ) : Type 0 where
   pub near_x : nat_abs (read dx) ≤ 32767
   pub near_y : nat_abs (read dy) ≤ 32767
 
--- what `step` ensures
-abbrev Step : ℤ → ℤ → ℤ → Type 0
-Step from to d = (d ≡ to -ℤ from) × (nat_abs d ≤ 32000)
+-- the step between two places that are near 0
+pub step-fits : (a b : ℤ) → Small a → Small b → nat_abs (b -ℤ a) < 2 ^ 31
+step-fits a b h k = omega (arith, apart b a k h)
 
-pub moves : {xs ys : List ℤ} {i : ℕ} {px py dx dy : ℤ} → Here xs ys i → Step px (read_at xs i) dx → Step py (read_at ys i) dy → Moves xs ys i px py dx dy
-moves {px = px} {py} {dx} {dy} h e f =
-    let p : read dx ≡ dx = back-small dx (omega (arith, e.1)) in
-    let q : read dy ≡ dy = back-small dy (omega (arith, f.1)) in
+step-near : (a b d : ℤ) → Small a → Small b → d ≡ b -ℤ a → nat_abs d ≤ 32000
+step-near a b d h k e = rw e (apart b a k h)
+
+pub moves : {xs ys : List ℤ} {i : ℕ} {px py dx dy : ℤ} → Here xs ys i → Small px → Small py → dx ≡ read_at xs i -ℤ px → dy ≡ read_at ys i -ℤ py
+    → Moves xs ys i px py dx dy
+moves {xs} {ys} {i} {px} {py} {dx} {dy} h sx sy e f =
+    let near_x = step-near px (read_at xs i) dx sx (near-across h) e in
+    let near_y = step-near py (read_at ys i) dy sy (near_down h) f in
+    let p : read dx ≡ dx = back-small dx (omega (arith, near_x)) in
+    let q : read dy ≡ dy = back-small dy (omega (arith, near_y)) in
     record {
-      across = p ∙ e.0 ∙ ap (λ (z : ℤ). z -ℤ px) h.read_across;
-      down = q ∙ f.0 ∙ ap (λ (z : ℤ). z -ℤ py) h.read_down;
-      near_x = rw p (omega (arith, e.1));
-      near_y = rw q (omega (arith, f.1));
+      across = p ∙ e ∙ ap (λ (z : ℤ). z -ℤ px) h.read_across;
+      down = q ∙ f ∙ ap (λ (z : ℤ). z -ℤ py) h.read_down;
+      near_x = rw p (omega (arith, near_x));
+      near_y = rw q (omega (arith, near_y));
     }
 
 -- the command c, from (px, py): its bytes vs, and where the last stitch is behind it

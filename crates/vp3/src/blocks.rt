@@ -1,6 +1,6 @@
 // The colour blocks of a list: how many bytes their stitches take, and the blocks themselves.
 // A port of src/formats/more.rs of zigzag, changed.
-ghost use Rattle.std.specs.Prelude.{◌≡◌, false, [], ◌∷◌, ◌++◌, ◌+◌, ◌≤◌, pos, nat_abs, ◌-ℤ◌, length, drop, eqb};
+ghost use Rattle.std.specs.Prelude.{◌≡◌, false, [], ◌∷◌, ◌++◌, ◌+◌, ◌≤◌, pos, nat_abs, ◌-ℤ◌, length, drop};
 ghost use Rattle.rules.specs.Lists.{commands, threads_of};
 ghost use Rattle.rules.specs.Refusals.{place_outside};
 ghost use Rattle.rules.specs.Thumbnails.{color_blocks};
@@ -11,7 +11,8 @@ ghost use Rattle.vp3.specs.Blocks.{Close, Left, Rest, between, end_of, Scanned, 
 
 use crate::heads::{Middle, Way, put_block_head};
 use emit::put;
-use formats::{list_len, op_of};
+use formats::{are_stitches, list_len, op_of};
+use geom::step;
 use rules::Color;
 use vp3_cmd::{cmd_len, last_stitch, put_cmd, put_stitch, stitch_len};
 
@@ -27,21 +28,6 @@ pub struct Scan {
 pub struct Scans {
     pub len: usize,
     pub blocks: usize,
-}
-
-// The step from one place to another.
-fn step(from: i32, to: i32) -> i32
-    requires { (nat_abs from ≤ 16000) × (nat_abs to ≤ 16000) }
-    ensures { (result ≡ to -ℤ from) × (nat_abs result ≤ 32000) }
-{
-    to - from
-}
-
-// Whether two kinds are both 0, a stitch, by one test.
-fn are_stitches(a: u8, b: u8) -> bool
-    ensures { result ≡ eqb (a + b) 0 }
-{
-    (a as u16) + (b as u16) == 0
 }
 
 // The bytes of two stitches, from (x, y) to (nx, ny) and on to (mx, my).
@@ -83,6 +69,7 @@ fn scan_block(xs: &[i32], ys: &[i32], kinds: &[u8], from: usize, x: i32, y: i32)
     let mut py = y;
     let mut len = 0;
     let mut i = from;
+    // Kept as while: a turn goes on by one command or by two.
     while i + 1 < n {
         let j = i + 1;
         let nx = xs[i];
@@ -137,6 +124,7 @@ pub fn scan_list(
     let mut total = 0;
     let mut k = 0;
     let mut from = 0;
+    // Kept as while: each turn goes on by a whole block.
     while from <= n {
         let s = scan_block(xs, ys, kinds, from, x, y);
         ends[k] = s.end;
@@ -185,6 +173,7 @@ fn put_stitches(
     let mut py = y;
     let mut to = at;
     let mut i = from;
+    // Kept as while: a turn goes on by one command or by two.
     while i + 1 < end {
         let j = i + 1;
         let nx = xs[i];
@@ -267,8 +256,7 @@ pub fn put_blocks(
     let mut y: i32 = 0;
     let mut to = at;
     let mut from = 0;
-    let mut k = 0;
-    while k < n {
+    for k in 0..n {
         let end = ends[k];
         let to_x = end_of(xs, from, end, x);
         let to_y = end_of(ys, from, end, y);
@@ -283,7 +271,6 @@ pub fn put_blocks(
         x = to_x;
         y = to_y;
         from = end + 1;
-        k += 1;
     }
     to
 }

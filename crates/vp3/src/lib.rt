@@ -6,12 +6,11 @@
 pub mod blocks;
 pub mod heads;
 
-ghost use Rattle.std.specs.Prelude.{◌≡◌, [], ◌≤◌, ◌<◌, ◌+ℤ◌, length};
+ghost use Rattle.std.specs.Prelude.{◌≡◌, [], ◌≤◌, ◌<◌, ◌+ℤ◌, length, Some};
 ghost use Rattle.rules.specs.Files.{write_answer};
 ghost use Rattle.rules.specs.Lists.{commands, threads_of};
 ghost use Rattle.rules.specs.Vp3.{vp3_file};
 ghost use Rattle.rules.specs.Promises.{Wrote};
-ghost use Rattle.rules.specs.declared.Extension.TheVariants.{Of};
 ghost use Rattle.rules.specs.declared.Format.TheVariants.{Vp3};
 ghost use Rattle.laws.specs.Buffers.{Puts};
 ghost use Rattle.emit.specs.Answered.{Answered};
@@ -22,7 +21,7 @@ use crate::blocks::{put_blocks, scan_list};
 use crate::heads::{Middle, put_design, put_opening, put_sizes};
 use formats::{list_len, near_bounds};
 use geom::Bounds;
-use rules::{Format, Refusal, Verdict, WriteAnswer};
+use rules::{Format, Refusal, Written};
 use write_refusals::check_list;
 
 // Twice the centre of a design.
@@ -54,7 +53,7 @@ fn write_accepted(
     kinds: &[u8],
     threads: &[u8],
     out: &mut [u8],
-) -> WriteAnswer
+) -> Result<Written, Refusal>
     requires { Known xs.now ys.now kinds.now × (1 ≤ length kinds.now) }
     ensures { Answered (write_answer 0) (vp3_file (commands xs.now ys.now kinds.now) (threads_of threads.now)) out.old out.new result }
 {
@@ -63,7 +62,7 @@ fn write_accepted(
     let s = scan_list(xs, ys, kinds, &mut ends, &mut lens);
     let n = 226 + 57 * s.blocks + s.len;
     if out.len() < n {
-        return WriteAnswer::Unwritten(Refusal::BufferTooShort);
+        return Err(Refusal::BufferTooShort);
     }
     let b = near_bounds(xs, ys, kinds);
     let at = put_head(b, n, list_len(xs, ys, kinds), s.blocks, out);
@@ -79,7 +78,10 @@ fn write_accepted(
         out,
         at,
     );
-    WriteAnswer::Written(end, 0)
+    Ok(Written {
+        len: end,
+        distance: 0,
+    })
 }
 
 // Writes a list as a VP3 file to the front of the buffer: its length; or why it is refused, and the buffer as it was.
@@ -89,12 +91,9 @@ pub fn write_vp3(
     kinds: &[u8],
     threads: &[u8],
     out: &mut [u8],
-) -> WriteAnswer
-    ensures { Wrote (Of Vp3) [] xs.now ys.now kinds.now threads.now out.old out.new result }
+) -> Result<Written, Refusal>
+    ensures { Wrote (Some Vp3) [] xs.now ys.now kinds.now threads.now out.old out.new result }
 {
-    let checked = check_list(Format::Vp3, xs, ys, kinds, threads);
-    match checked {
-        Verdict::Accepted => write_accepted(xs, ys, kinds, threads, out),
-        Verdict::Refused(why) => WriteAnswer::Unwritten(why),
-    }
+    check_list(Format::Vp3, xs, ys, kinds, threads)?;
+    write_accepted(xs, ys, kinds, threads, out)
 }

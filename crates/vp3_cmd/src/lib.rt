@@ -8,7 +8,7 @@ ghost use Rattle.rules.specs.Vp3.{big, toward_zero, hundred, text16, stitch_of, 
 ghost use Rattle.laws.specs.Buffers.{Puts};
 ghost use Rattle.vp3_cmd.specs.Long.{long_of};
 
-use emit::{put2, put4};
+use emit::{low_byte, low16, put2, put4};
 use rules::Op;
 
 // A number in two bytes; what is past them is lost.
@@ -16,7 +16,8 @@ pub fn put_be16(out: &mut [u8], at: usize, v: usize) -> usize
     requires { at + 2 ≤ length out.old }
     ensures { Puts out at result (big 2 v) }
 {
-    put2(out, at, (v / 256 % 256) as u8, (v % 256) as u8)
+    let b = v.to_be_bytes();
+    put2(out, at, b[6], b[7])
 }
 
 // A number in four bytes.
@@ -24,14 +25,8 @@ pub fn put_be32(out: &mut [u8], at: usize, v: u32) -> usize
     requires { at + 4 ≤ length out.old }
     ensures { Puts out at result (big 4 v) }
 {
-    put4(
-        out,
-        at,
-        (v / 16777216 % 256) as u8,
-        (v / 65536 % 256) as u8,
-        (v / 256 % 256) as u8,
-        (v % 256) as u8,
-    )
+    let b = v.to_be_bytes();
+    put4(out, at, b[0], b[1], b[2], b[3])
 }
 
 // A hundred times z, in 32 bits of two's complement.
@@ -39,8 +34,7 @@ fn hundred_bits(z: i32) -> u32
     requires { nat_abs z ≤ 65535 }
     ensures { result ≡ bits_of 31 (z *ℤ pos 100) }
 {
-    let v = (z as i64) * 100 + 4294967296;
-    ((v as u64) % 4294967296) as u32
+    (z * 100).cast_unsigned()
 }
 
 pub fn put_hundred(out: &mut [u8], at: usize, z: i32) -> usize
@@ -66,11 +60,9 @@ fn put_wide(out: &mut [u8], at: usize, text: &[u8]) -> usize
     requires { at + 2 * length text.now ≤ length out.old }
     ensures { Puts out at result (joined (map (λ (b : ℕ). 0x00 ∷ b ∷ []) text.now)) }
 {
-    let mut i = 0;
     let mut to = at;
-    while i < text.len() {
-        to = put2(out, to, 0x00, text[i]);
-        i += 1;
+    for b in text {
+        to = put2(out, to, 0x00, *b);
     }
     to
 }
@@ -85,22 +77,6 @@ pub fn put_text16(out: &mut [u8], at: usize, text: &[u8]) -> usize
 }
 
 // ---- commands
-
-// A small number in two's complement.
-fn low_byte(z: i32) -> u8
-    requires { nat_abs z ≤ 127 }
-    ensures { result ≡ bits_of 7 z }
-{
-    (((z + 256) as u32) % 256) as u8
-}
-
-// The same in 16 bits.
-fn low_bits(z: i32) -> usize
-    requires { nat_abs z ≤ 32767 }
-    ensures { result ≡ bits_of 15 z }
-{
-    ((z + 65536) as usize) % 65536
-}
 
 // Whether each step of a stitch fits a byte.
 pub fn is_short(dx: i32, dy: i32) -> bool
@@ -123,8 +99,8 @@ fn put_long(dx: i32, dy: i32, out: &mut [u8], at: usize) -> usize
     ensures { Puts out at result (long_of dx dy) }
 {
     let x = put2(out, at, 0x80, 0x01);
-    let y = put_be16(out, x, low_bits(dx));
-    let end = put_be16(out, y, low_bits(dy));
+    let y = put_be16(out, x, low16(dx));
+    let end = put_be16(out, y, low16(dy));
     put2(out, end, 0x80, 0x02)
 }
 

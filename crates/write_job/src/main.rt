@@ -2,22 +2,21 @@
 // whole. What is refused or fails is told on standard error.
 #![tactic(auto)]
 
-ghost use Rattle.std.specs.Prelude.{◌≤◌};
+ghost use Rattle.std.specs.Prelude.{◌≤◌, IfSome};
+ghost use Rattle.command_line.specs.Files.{IsPrefixLen};
 
-use command_line::{
-    FileAnswer, argument, extension, is_given, read_file, refused, replace_file, usage,
-};
+use command_line::{argument, extension, is_given, read_file, refused, replace_file, usage};
 use formats::extension_of;
-use rules::{Extension, ImportAnswer, Refusal, WriteAnswer};
+use rules::{Refusal, Written};
 use std::random::RandomSource;
-use std::rt::Files;
+use std::rt::{Env, Files};
 use stitch_box::{import_job, job_name};
 
 // A count as a number of cells that there are. No answer of a call is cut by this.
 fn at_most(n: usize, cells: usize) -> usize
     ensures { result ≤ cells }
 {
-    if n < cells { n } else { cells }
+    n.min(cells)
 }
 
 // Writes a list as OUT, by way of a buffer.
@@ -32,13 +31,12 @@ fn write<R: Files + RandomSource>(
     threads: &[u8],
     file: &mut [u8],
 ) {
-    let answer = stitch_box::write(extension(out), name, xs, ys, kinds, threads, file);
-    match answer {
-        WriteAnswer::Written(n, _) => {
+    match stitch_box::write(extension(out), name, xs, ys, kinds, threads, file) {
+        Ok(Written { len: n, .. }) => {
             let end = at_most(n, file.len());
-            replace_file(rt, err, out, &file[..end]);
+            let _ = replace_file(rt, err, out, &file[..end]);
         }
-        WriteAnswer::Unwritten(why) => refused(err, why),
+        Err(why) => refused(err, why),
     }
 }
 
@@ -54,9 +52,8 @@ fn convert<R: Files + RandomSource>(
     let mut ys = [0i32; 65535];
     let mut kinds = [0u8; 65535];
     let mut threads = [0u8; 765];
-    let answer = import_job(job, &mut xs, &mut ys, &mut kinds, &mut threads);
-    match answer {
-        ImportAnswer::Imported(c) => {
+    match import_job(job, &mut xs, &mut ys, &mut kinds, &mut threads) {
+        Ok(c) => {
             let n = at_most(c.commands as usize, 65535);
             let t = at_most(c.thread_bytes as usize, 765);
             write(
@@ -71,7 +68,7 @@ fn convert<R: Files + RandomSource>(
                 file,
             );
         }
-        ImportAnswer::NotImported(why) => refused(err, why),
+        Err(why) => refused(err, why),
     }
 }
 
@@ -83,8 +80,7 @@ fn read_and_convert<R: Files + RandomSource>(
     bytes: &mut [u8],
     file: &mut [u8],
 ) {
-    let answer = read_file(rt, err, job, bytes);
-    let FileAnswer::Read(n) = answer else {
+    let Ok(n) = read_file(rt, err, job, bytes) else {
         return;
     };
     convert(rt, err, &bytes[..n], out, file);
@@ -111,36 +107,32 @@ fn run<R: Files + RandomSource>(rt: &R, err: &impl Print, job: &[u8], out: &[u8]
 
 // The extension is asked before the job is opened.
 fn write_job<R: Files + RandomSource>(rt: &R, err: &impl Print, job: &[u8], out: &[u8]) {
-    let named = extension_of(extension(out));
-    match named {
-        Extension::Of(_) => run(rt, err, job, out),
-        Extension::Unknown => refused(err, Refusal::UnknownExtension),
+    if extension_of(extension(out)).is_none() {
+        refused(err, Refusal::UnknownExtension);
+        return;
     }
+    run(rt, err, job, out);
 }
 
-fn wrong_arguments(err: &impl Print) {
-    usage(err, b"write_job JOB OUT");
+// The lengths of the two names, if these are all arguments.
+fn arguments(rt: &impl Env, job: &mut [u8], out: &mut [u8]) -> Option<(usize, usize)>
+    ensures { IfSome result (λ a. IsPrefixLen a.0 job.new × IsPrefixLen a.1 out.new) }
+{
+    let n = argument(rt, 1, job)?;
+    let m = argument(rt, 2, out)?;
+    if is_given(rt, 3) {
+        return None;
+    }
+    Some((n, m))
 }
 
 fn main(rt: HostRuntime) {
     let err = rt.stderr();
     let mut job = [0u8; 4096];
     let mut out = [0u8; 4096];
-    let first = argument(&rt, 1, &mut job);
-    let second = argument(&rt, 2, &mut out);
-    if is_given(&rt, 3) {
-        wrong_arguments(&err);
+    let Some((n, m)) = arguments(&rt, &mut job, &mut out) else {
+        usage(&err, "write_job JOB OUT");
         return;
-    }
-    if !first.whole {
-        wrong_arguments(&err);
-        return;
-    }
-    if !second.whole {
-        wrong_arguments(&err);
-        return;
-    }
-    let n = first.len;
-    let m = second.len;
+    };
     write_job(&rt, &err, &job[..n], &out[..m]);
 }

@@ -10,29 +10,14 @@ ghost use Rattle.rules.specs.Refusals.{command_verdict, list_verdict};
 
 use rules::{
     Format, GREATEST_PLACE, LEAST_PLACE, MOST_CHANGES, MOST_COMMANDS, MOST_THREADS, Refusal,
-    Verdict,
 };
 
 // The number of a refusal.
+#[tactic(auto, unfolding(rules::specs::Refusals::number_of))]
 pub fn number(r: Refusal) -> u32
     ensures { result ≡ number_of r }
 {
-    match r {
-        Refusal::UnknownExtension => 1,
-        Refusal::FileTooLong => 2,
-        Refusal::BadOpening => 3,
-        Refusal::FileTooShort => 4,
-        Refusal::StartBelowZero => 5,
-        Refusal::BadList => 6,
-        Refusal::PlaceOutside => 7,
-        Refusal::TooMany => 8,
-        Refusal::Moved => 9,
-        Refusal::StepTooLong => 10,
-        Refusal::BufferTooShort => 11,
-        Refusal::OutOfRange => 12,
-        Refusal::BadTag => 13,
-        Refusal::BadLength => 14,
-    }
+    r as u32
 }
 
 fn is_between(lo: i32, hi: i32, z: i32) -> bool
@@ -48,14 +33,13 @@ fn is_same(a: i32, b: i32) -> bool
 }
 
 // 6: a kind over 4.
+// Kept as a number: it asks whether the kind is one at all (`bad_list`).
 fn kind_over(kinds: &[u8]) -> bool
     ensures { result ≡ any (ltb 4) kinds.now }
 {
     let mut bad = false;
-    let mut i = 0;
-    while i < kinds.len() {
-        bad = bad | (4 < kinds[i]);
-        i += 1;
+    for kind in kinds {
+        bad = bad | (4 < *kind);
     }
     bad
 }
@@ -67,13 +51,12 @@ fn ends_once(kinds: &[u8]) -> bool
     if kinds.len() == 0 {
         return false;
     }
+    let last = kinds.len() - 1;
     let mut early = false;
-    let mut i = 0;
-    while i + 1 < kinds.len() {
+    for i in 0..last {
         early = early | (kinds[i] == 4);
-        i += 1;
     }
-    !early & (kinds[i] == 4)
+    !early & (kinds[last] == 4)
 }
 
 pub fn bad_list(xs: &[i32], ys: &[i32], kinds: &[u8]) -> bool
@@ -110,10 +93,8 @@ pub fn place_outside(xs: &[i32], ys: &[i32], kinds: &[u8]) -> bool
 {
     let n = formats::list_len(xs, ys, kinds);
     let mut bad = false;
-    let mut i = 0;
-    while i < n {
+    for i in 0..n {
         bad = bad | !is_placed(xs[i], ys[i]);
-        i += 1;
     }
     bad
 }
@@ -132,10 +113,8 @@ pub fn color_changes(xs: &[i32], ys: &[i32], kinds: &[u8]) -> usize
 {
     let n = formats::list_len(xs, ys, kinds);
     let mut found: u16 = 0;
-    let mut i = 0;
-    while i < n {
+    for i in 0..n {
         found += is_change(kinds[i]) as u16;
-        i += 1;
     }
     found as usize
 }
@@ -181,37 +160,26 @@ pub fn moved(xs: &[i32], ys: &[i32], kinds: &[u8]) -> bool
     let mut x: i32 = 0;
     let mut y: i32 = 0;
     let mut bad = false;
-    let mut i = 0;
-    while i < n {
+    for i in 0..n {
         let nx = xs[i];
         let ny = ys[i];
         bad = bad | moves(kinds[i], x, y, nx, ny);
         x = nx;
         y = ny;
-        i += 1;
     }
     bad
 }
 
-fn least_step(f: Format) -> i32
-    ensures { result ≡ least_step f }
+// The least and the greatest step of a format.
+#[tactic(auto, unfolding(rules::specs::Refusals::least_step, rules::specs::Refusals::greatest_step))]
+fn step_limits(f: Format) -> (i32, i32)
+    ensures { result ≡ (least_step f, greatest_step f) }
 {
     match f {
-        Format::Pes | Format::Pec => -2048,
-        Format::Dst => -121,
-        Format::Exp | Format::Jef => -127,
-        Format::Vp3 => -32000,
-    }
-}
-
-fn greatest_step(f: Format) -> i32
-    ensures { result ≡ greatest_step f }
-{
-    match f {
-        Format::Pes | Format::Pec => 2047,
-        Format::Dst => 121,
-        Format::Exp | Format::Jef => 127,
-        Format::Vp3 => 32000,
+        Format::Pes | Format::Pec => (-2048, 2047),
+        Format::Dst => (-121, 121),
+        Format::Exp | Format::Jef => (-127, 127),
+        Format::Vp3 => (-32000, 32000),
     }
 }
 
@@ -227,52 +195,52 @@ pub fn step_too_long(f: Format, xs: &[i32], ys: &[i32], kinds: &[u8]) -> bool
     ensures { result ≡ step_too_long f (commands xs.now ys.now kinds.now) }
 {
     let n = formats::list_len(xs, ys, kinds);
-    let lo = least_step(f);
-    let hi = greatest_step(f);
+    let (lo, hi) = step_limits(f);
     let mut x: i32 = 0;
     let mut y: i32 = 0;
     let mut bad = false;
-    let mut i = 0;
-    while i < n {
+    for i in 0..n {
         let nx = xs[i];
         let ny = ys[i];
         bad = bad | !is_step_in(lo, hi, nx - x, ny - y);
         x = nx;
         y = ny;
-        i += 1;
     }
     bad
 }
 
 // The first of refusals 6 to 9 that holds, each over the whole list before the next.
-pub fn check_commands(xs: &[i32], ys: &[i32], kinds: &[u8], threads: &[u8]) -> Verdict
+pub fn check_commands(xs: &[i32], ys: &[i32], kinds: &[u8], threads: &[u8]) -> Result<(), Refusal>
     ensures { result ≡ command_verdict xs.now ys.now kinds.now threads.now }
 {
     if bad_list(xs, ys, kinds) {
-        return Verdict::Refused(Refusal::BadList);
+        return Err(Refusal::BadList);
     }
     if place_outside(xs, ys, kinds) {
-        return Verdict::Refused(Refusal::PlaceOutside);
+        return Err(Refusal::PlaceOutside);
     }
     if too_many(xs, ys, kinds, threads) {
-        return Verdict::Refused(Refusal::TooMany);
+        return Err(Refusal::TooMany);
     }
     if moved(xs, ys, kinds) {
-        return Verdict::Refused(Refusal::Moved);
+        return Err(Refusal::Moved);
     }
-    Verdict::Accepted
+    Ok(())
 }
 
 // The first of refusals 6 to 10 that holds.
-pub fn check_list(f: Format, xs: &[i32], ys: &[i32], kinds: &[u8], threads: &[u8]) -> Verdict
+pub fn check_list(
+    f: Format,
+    xs: &[i32],
+    ys: &[i32],
+    kinds: &[u8],
+    threads: &[u8],
+) -> Result<(), Refusal>
     ensures { result ≡ list_verdict f xs.now ys.now kinds.now threads.now }
 {
-    let checked = check_commands(xs, ys, kinds, threads);
-    let Verdict::Accepted = checked else {
-        return checked;
-    };
+    check_commands(xs, ys, kinds, threads)?;
     if step_too_long(f, xs, ys, kinds) {
-        return Verdict::Refused(Refusal::StepTooLong);
+        return Err(Refusal::StepTooLong);
     }
-    Verdict::Accepted
+    Ok(())
 }

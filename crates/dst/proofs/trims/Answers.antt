@@ -31,9 +31,6 @@ bounds-kinds-i c = let list-len = c.list_len-n in
 pub overflow_add-found : goal.overflow_add-found
 overflow_add-found c = omega arith
 
-pub overflow_add-i : goal.overflow_add-i
-overflow_add-i c = omega arith
-
 pub loop-i-preserved : goal.loop-i-preserved
 loop-i-preserved c =
     let a = c.args in
@@ -44,9 +41,6 @@ loop-i-preserved c =
       | then-is_trim w ↦ (omega arith, (omega arith, omega (arith, on true c.is_trim.ensures w.if-is_trim.true)))
       | else-is_trim w ↦ (omega arith, (omega arith, omega (arith, on false c.is_trim.ensures w.if-is_trim.false)))
     ]
-
-pub loop-i-smaller : goal.loop-i-smaller
-loop-i-smaller c = omega arith
 
 pub returns : goal.returns
 returns c = let list-len = c.list_len-n in

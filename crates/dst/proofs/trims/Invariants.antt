@@ -1,5 +1,5 @@
 -- What was found and what the commands left have are all.
-use Prim.Native.Nat.{◌+◌, ◌-◌, ◌≤◌}
+use Prim.Native.Nat.{◌+◌, ◌≤◌}
 use mathlib.Core.Path.{◌≡◌}
 use lib.ListN.{drop}
 use Rattle.rules.specs.Vocabulary.{count}
@@ -10,6 +10,3 @@ use Rattle.dst.proofs.trims.Given as goal
 abbrev pub invariant-loop-i : goal.invariant-loop-i
 invariant-loop-i l =
     (l.found ≤ l.i) × ((l.i ≤ l.n) × (count trimming (commands l.xs l.ys l.kinds) ≡ l.found + count trimming (drop l.i (commands l.xs l.ys l.kinds))))
-
-abbrev pub decreases-loop-i : goal.decreases-loop-i
-decreases-loop-i l = l.n - l.i

@@ -1,11 +1,9 @@
 -- The powers of ten are those of the definition.
-use Prim.Native.Nat.{ℕ, zero, suc, ◌^◌, ◌<◌}
-use native.Mathlib.Nat.{pow-suc}
+use Prim.Native.Nat.{◌^◌}
 use native.Mathlib.Omega.{arith}
 use borrow.Author.Tests.{lt-ltb, le-ltb}
 use Rattle.rules.specs.Vocabulary.{digit_at}
 use Rattle.laws.specs.Decimals.{tens}
-use borrow.Author.Rules.{rules}
 use Rattle.emit.proofs.digit_at.Goals as goal
 
 pub returns-then-k-eq0 : goal.returns-then-k-eq0

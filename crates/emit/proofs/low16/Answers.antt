@@ -1,8 +1,10 @@
--- The remainder of the number raised by 65536.
+-- The cast of the number gives its bits.
+use mathlib.Core.Path.{refl}
+use mir.Syntax.{w16}
 use native.Mathlib.Omega.{arith}
-use Rattle.laws.specs.Twos.{over-fits, over-cast, over-low}
-use borrow.Author.Rules.{rules}
+use Rattle.laws.specs.Ints.{ints, abs_is}
+use Rattle.emit.proofs.Bits.{cast-is}
 use Rattle.emit.proofs.low16.Goals as goal
 
 pub returns : goal.returns
-returns c = over-low 15 (omega arith) c.ranges.z (omega (arith, c.requires))
+returns c = cast-is w16 15 refl (omega (arith, c.requires)) (omega (ints, c.requires, abs_is c.args.z)) c.ranges.z c.cast_unsigned.ensures

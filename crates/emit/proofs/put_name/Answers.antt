@@ -1,17 +1,13 @@
 -- A byte that stays is the next to come, any other changes nothing, and blanks are the rest.
-use borrow.Author.Rules.{rules}
 use Prim.Native.Nat.{ℕ, ◌+◌, ◌-◌, ◌≤◌, ◌<◌}
 use mathlib.Core.Path.{◌≡◌, refl, sym, ap, ◌∙◌}
-use mathlib.Core.Bool.{Bool, ◌&&◌}
+use mathlib.Core.Bool.{Bool}
 use mathlib.Core.List.{List, [], ◌∷◌, ◌++◌, append-nil}
-use native.Mathlib.Nat.{add-zero}
 use native.Mathlib.Omega.{arith}
-use borrow.Author.Tests.{not-true, not-false}
-use lib.Dec.{leb, ltb}
-use lib.ListN.{length, get_or, take, drop, replicate, length-replicate}
+use lib.ListN.{length, get_or, take, replicate, length-replicate}
 use Rattle.rules.specs.Vocabulary.{keep, padded}
 use Rattle.laws.specs.Buffers.{Put, Writing, writing_start, writing-room, writing_more, writing-done}
-use Rattle.laws.specs.Names.{coming, length-coming, name-start, name-more, name-skip, name-full, name-end}
+use Rattle.laws.specs.Names.{coming, length-coming, name-start, name-more, name-skip, name-end}
 use Rattle.emit.proofs.put_name.Invariants.{within}
 use Rattle.emit.proofs.put_name.Goals as goal
 
@@ -37,33 +33,33 @@ module _ {d₀ whole d coming : List ℕ} {base n : ℕ} (k : ℕ) (w : Writing 
   last : {d' : List ℕ} {m : ℕ} → Put d d' n m (replicate k 0x20) → Put d₀ d' base m whole
   last p = writing-done {coming = []} (writing_more w all p) refl
 
-pub loop-i-init : goal.loop-i-init
-loop-i-init c =
+pub loop-b-init : goal.loop-b-init
+loop-b-init c =
     let a = c.args in
     let p = within a.low a.high in
     rw (← start p a.most a.name.now c.requires.0)
     (writing_start a.out.now a.at (padded 16 (take a.most (keep p a.name.now)))
     (omega (arith, c.requires, sixteen p a.most a.name.now c.requires.0)))
 
-pub loop-i-preserved-then-not-stays : goal.loop-i-preserved-then-not-stays
-loop-i-preserved-then-not-stays c = let loop-test = c.loop-i-test in let l = c.loop-i in
+pub loop-b-preserved-then-not-stays : goal.loop-b-preserved-then-not-stays
+loop-b-preserved-then-not-stays c = let loop-test = c.loop-b-test in let l = c.loop-b in
     let a = c.args in
-    rw (← name-skip (within a.low a.high) (16 - a.most) l.left l.i a.name.now loop-test.true
+    rw (← name-skip (within a.low a.high) (16 - a.most) l.left l.b-index a.name.now loop-test.true
     (sym c.stays.ensures ∙ c.if-not-stays.true)) l.invariant
 
-pub loop-i-preserved : goal.loop-i-preserved
-loop-i-preserved c = let if2 = c.if-not-stays in let stays' = c.stays in
+pub loop-b-preserved : goal.loop-b-preserved
+loop-b-preserved c = let if2 = c.if-not-stays in let stays' = c.stays in
     let if1 = c.if-left-eq0 in
-    let loop-test = c.loop-i-test in
-    let l = c.loop-i in
+    let loop-test = c.loop-b-test in
+    let l = c.loop-b in
     let a = c.args in
     let s = a.name.now in
-    writing_more {vs = get_or s l.i 0 ∷ []} l.invariant
-    (name-more (within a.low a.high) (16 - a.most) l.left l.i s (positive l.left if1.false) loop-test.true
+    writing_more {vs = get_or s l.b-index 0 ∷ []} l.invariant
+    (name-more (within a.low a.high) (16 - a.most) l.left l.b-index s (positive l.left if1.false) loop-test.true
     (sym stays'.ensures ∙ if2.false))
     c.put-to.ensures
 
 pub returns : goal.returns
-returns c = let loop-test = c.loop-i-test in let l = c.loop-i in
+returns c = let loop-test = c.loop-b-test in let l = c.loop-b in
     let a = c.args in
-    last (16 - a.most + l.left) l.invariant (name-end (within a.low a.high) (16 - a.most) l.left l.i a.name.now loop-test.false) c.put_times-2.ensures
+    last (16 - a.most + l.left) l.invariant (name-end (within a.low a.high) (16 - a.most) l.left l.b-index a.name.now loop-test.false) c.put_times-2.ensures

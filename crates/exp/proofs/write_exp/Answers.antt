@@ -1,20 +1,23 @@
 -- The checks decide, and then the room.
+use Rattle.std.specs.Prelude.{◌≡◌, Err}
 use Rattle.rules.specs.Files.{file_of, distance_of}
 use Rattle.emit.proofs.Writes.{fine, wrote, not-wrote}
 use borrow.Author.Rules.{rules}
 use Rattle.exp.proofs.write_exp.Goals as goal
 
-pub check_list-checked-requires : goal.check_list-checked-requires
+pub check_list-requires : goal.check_list-requires
 unfolding file_of distance_of
-check_list-checked-requires c = search rules
+check_list-requires c = search rules
 
 pub write_accepted-requires : goal.write_accepted-requires
-write_accepted-requires c = let g = fine c.check_list-checked.ensures c.in-Accepted.is in (g.long, g.steps)
+write_accepted-requires c = let g = fine c.check_list.ensures c.in_ok-check_list.was in (g.long, g.steps)
 
-pub returns-in-Accepted : goal.returns-in-Accepted
+pub returns : goal.returns
 unfolding file_of distance_of
-returns-in-Accepted c = search wrote
+returns c = wrote c.check_list.ensures c.in_ok-check_list.was c.write_accepted.ensures
 
-pub returns-in-Refused : goal.returns-in-Refused
+pub returns-in_err-check_list : goal.returns-in_err-check_list
 unfolding file_of distance_of
-returns-in-Refused c = search not-wrote
+returns-in_err-check_list c =
+    let e : c.from_residual.result ≡ Err c.in_err-check_list.field-0.0 = search rules in
+    rw e (not-wrote c.check_list.ensures c.in_err-check_list.was)

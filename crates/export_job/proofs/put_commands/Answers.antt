@@ -44,12 +44,6 @@ bounds-ys-k c = (row_in c.loop-k.invariant c.loop-k-test.true).down
 pub put_row-to-requires : goal.put_row-to-requires
 put_row-to-requires c = record { x_bound = row_near c.loop-k.invariant c.loop-k-test.true; at_in_bounds = row_room c.loop-k.invariant c.loop-k-test.true }
 
-pub overflow_add-k : goal.overflow_add-k
-overflow_add-k c = omega arith
-
-pub loop-k-smaller : goal.loop-k-smaller
-loop-k-smaller c = omega arith
-
 pub loop-k-preserved : goal.loop-k-preserved
 loop-k-preserved c =
     row_on c.loop-k.invariant c.loop-k-test.true c.put_row-to.ensures

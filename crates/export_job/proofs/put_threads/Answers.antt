@@ -1,38 +1,20 @@
 -- What comes is the fields of the threads that are left.
-use native.Mathlib.Omega.{arith}
+use mathlib.Core.Path.{ap, ◌∙◌}
 use Rattle.export_job.proofs.Fields.{thread-start, thread-room, thread-on, thread-done}
 use Rattle.export_job.proofs.put_threads.Goals as goal
 
-pub loop-i-init : goal.loop-i-init
-loop-i-init c = thread-start _ _ _ c.requires
-
-pub overflow_sub-threads : goal.overflow_sub-threads
-overflow_sub-threads c = omega arith
-
-pub overflow_add-e : goal.overflow_add-e
-overflow_add-e c = omega arith
-
-pub slice_bounds-put_field-count : goal.slice_bounds-put_field-count
-slice_bounds-put_field-count c = omega arith
-
-pub slice_bounds-put_field-start : goal.slice_bounds-put_field-start
-slice_bounds-put_field-start c = omega arith
-
-pub slice_bounds-put_field-end : goal.slice_bounds-put_field-end
-slice_bounds-put_field-end c = omega arith
+pub loop-thread-init : goal.loop-thread-init
+loop-thread-init c =
+    let e = c.into_iter-thread-iterator.ensures.into_iter_gives in
+    let made = c.chunks_exact-thread-items.ensures in
+    thread-start _ _ _ c.requires (ap (λ i. i.size) e ∙ made.size) (ap (λ i. i.rest.now) e ∙ made.rest)
 
 pub put_field-to-requires : goal.put_field-to-requires
-put_field-to-requires c = thread-room c.loop-i.invariant c.loop-i-test.true
+put_field-to-requires c = let step = c.in-Some.ensures.steps in thread-room c.loop-thread.invariant _ _ step.1.0 step.1.1
 
-pub loop-i-smaller : goal.loop-i-smaller
-loop-i-smaller c = omega (arith, c.loop-i-test.true)
-
-pub loop-i-preserved : goal.loop-i-preserved
-loop-i-preserved c =
-    thread-on c.loop-i.invariant c.loop-i-test.true c.put_field-to.ensures
-
-pub shape_of-out : goal.shape_of-out
-shape_of-out c = c.loop-i.invariant.writing.same
+pub loop-thread-preserved : goal.loop-thread-preserved
+loop-thread-preserved c = let step = c.in-Some.ensures.steps in
+    thread-on c.loop-thread.invariant _ _ step.1.0 step.1.1 c.put_field-to.ensures step.0
 
 pub returns : goal.returns
-returns c = thread-done c.loop-i.invariant c.loop-i-test.false
+returns c = thread-done c.loop-thread.invariant c.in-None.ensures.steps.1.0

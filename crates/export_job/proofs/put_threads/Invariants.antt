@@ -1,11 +1,6 @@
 -- What comes is the fields of the threads that are left.
-use Prim.Native.Nat.{◌-◌}
-use lib.ListN.{length}
 use Rattle.export_job.proofs.Fields.{ThreadLoop}
 use Rattle.export_job.proofs.put_threads.Given as goal
 
-abbrev pub invariant-loop-i : goal.invariant-loop-i
-invariant-loop-i l = ThreadLoop l.threads l.initial.out l.at l.out l.to l.i
-
-abbrev pub decreases-loop-i : goal.decreases-loop-i
-decreases-loop-i l = length l.threads - l.i
+abbrev pub invariant-loop-thread : goal.invariant-loop-thread
+invariant-loop-thread l = ThreadLoop l.threads l.initial.out l.at l.out l.to l.thread-iterator.size l.thread-iterator.rest.now

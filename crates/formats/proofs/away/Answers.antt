@@ -14,4 +14,4 @@ color_distance-requires c = search rules
 
 pub returns : goal.returns
 unfolding away
-returns c = c.color_distance.ensures ∙ rw c.in-Thread.is
+returns c = c.color_distance.ensures ∙ rw c.in-Some.is

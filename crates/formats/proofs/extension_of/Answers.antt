@@ -1,31 +1,54 @@
 -- `extension_of` meets its contract: one test after the other. Assumes nothing.
+use Prim.Native.Nat.{ℕ}
+use mathlib.Core.Path.{refl}
+use mathlib.Core.List.{List, [], ◌∷◌}
 use Rattle.rules.specs.Refusals.{named_in, extension_of}
+use Rattle.formats.proofs.Names.{named-is}
 use Rattle.formats.proofs.extension_of.Goals as goal
 
-pub returns-then-is_named : goal.returns-then-is_named
-unfolding extension_of named_in
-returns-then-is_named c = rw (← c.is_named.ensures, c.if-is_named.true)
+-- the formats' letters
+abbrev pes : List ℕ
+pes = 112 ∷ 101 ∷ 115 ∷ []
 
-pub returns-then-is_named-2 : goal.returns-then-is_named-2
-unfolding extension_of named_in
-returns-then-is_named-2 c = rw (← c.is_named.ensures, c.if-is_named.false, ← c.is_named-2.ensures, c.if-is_named-2.true)
+abbrev pec : List ℕ
+pec = 112 ∷ 101 ∷ 99 ∷ []
 
-pub returns-then-is_named-3 : goal.returns-then-is_named-3
-unfolding extension_of named_in
-returns-then-is_named-3 c = rw (← c.is_named.ensures, c.if-is_named.false, ← c.is_named-2.ensures, c.if-is_named-2.false, ← c.is_named-3.ensures, c.if-is_named-3.true)
+abbrev dst : List ℕ
+dst = 100 ∷ 115 ∷ 116 ∷ []
 
-pub returns-then-is_named-4 : goal.returns-then-is_named-4
-unfolding extension_of named_in
-returns-then-is_named-4 c = rw (← c.is_named.ensures, c.if-is_named.false, ← c.is_named-2.ensures, c.if-is_named-2.false, ← c.is_named-3.ensures, c.if-is_named-3.false, ← c.is_named-4.ensures, c.if-is_named-4.true)
+abbrev exp : List ℕ
+exp = 101 ∷ 120 ∷ 112 ∷ []
 
-pub returns-then-is_named-5 : goal.returns-then-is_named-5
-unfolding extension_of named_in
-returns-then-is_named-5 c = rw (← c.is_named.ensures, c.if-is_named.false, ← c.is_named-2.ensures, c.if-is_named-2.false, ← c.is_named-3.ensures, c.if-is_named-3.false, ← c.is_named-4.ensures, c.if-is_named-4.false, ← c.is_named-5.ensures, c.if-is_named-5.true)
+abbrev jef : List ℕ
+jef = 106 ∷ 101 ∷ 102 ∷ []
 
-pub returns-then-is_named-6 : goal.returns-then-is_named-6
+abbrev vp3 : List ℕ
+vp3 = 118 ∷ 112 ∷ 51 ∷ []
+
+pub returns-then-eq_ignore_ascii_case : goal.returns-then-eq_ignore_ascii_case
 unfolding extension_of named_in
-returns-then-is_named-6 c = rw (← c.is_named.ensures, c.if-is_named.false, ← c.is_named-2.ensures, c.if-is_named-2.false, ← c.is_named-3.ensures, c.if-is_named-3.false, ← c.is_named-4.ensures, c.if-is_named-4.false, ← c.is_named-5.ensures, c.if-is_named-5.false, ← c.is_named-6.ensures, c.if-is_named-6.true)
+returns-then-eq_ignore_ascii_case c = rw (← named-is c.args.ext.now pes refl c.eq_ignore_ascii_case.ensures.test, c.if-eq_ignore_ascii_case.true)
+
+pub returns-then-eq_ignore_ascii_case-2 : goal.returns-then-eq_ignore_ascii_case-2
+unfolding extension_of named_in
+returns-then-eq_ignore_ascii_case-2 c = rw (← named-is c.args.ext.now pes refl c.eq_ignore_ascii_case.ensures.test, c.if-eq_ignore_ascii_case.false, ← named-is c.args.ext.now pec refl c.eq_ignore_ascii_case-2.ensures.test, c.if-eq_ignore_ascii_case-2.true)
+
+pub returns-then-eq_ignore_ascii_case-3 : goal.returns-then-eq_ignore_ascii_case-3
+unfolding extension_of named_in
+returns-then-eq_ignore_ascii_case-3 c = rw (← named-is c.args.ext.now pes refl c.eq_ignore_ascii_case.ensures.test, c.if-eq_ignore_ascii_case.false, ← named-is c.args.ext.now pec refl c.eq_ignore_ascii_case-2.ensures.test, c.if-eq_ignore_ascii_case-2.false, ← named-is c.args.ext.now dst refl c.eq_ignore_ascii_case-3.ensures.test, c.if-eq_ignore_ascii_case-3.true)
+
+pub returns-then-eq_ignore_ascii_case-4 : goal.returns-then-eq_ignore_ascii_case-4
+unfolding extension_of named_in
+returns-then-eq_ignore_ascii_case-4 c = rw (← named-is c.args.ext.now pes refl c.eq_ignore_ascii_case.ensures.test, c.if-eq_ignore_ascii_case.false, ← named-is c.args.ext.now pec refl c.eq_ignore_ascii_case-2.ensures.test, c.if-eq_ignore_ascii_case-2.false, ← named-is c.args.ext.now dst refl c.eq_ignore_ascii_case-3.ensures.test, c.if-eq_ignore_ascii_case-3.false, ← named-is c.args.ext.now exp refl c.eq_ignore_ascii_case-4.ensures.test, c.if-eq_ignore_ascii_case-4.true)
+
+pub returns-then-eq_ignore_ascii_case-5 : goal.returns-then-eq_ignore_ascii_case-5
+unfolding extension_of named_in
+returns-then-eq_ignore_ascii_case-5 c = rw (← named-is c.args.ext.now pes refl c.eq_ignore_ascii_case.ensures.test, c.if-eq_ignore_ascii_case.false, ← named-is c.args.ext.now pec refl c.eq_ignore_ascii_case-2.ensures.test, c.if-eq_ignore_ascii_case-2.false, ← named-is c.args.ext.now dst refl c.eq_ignore_ascii_case-3.ensures.test, c.if-eq_ignore_ascii_case-3.false, ← named-is c.args.ext.now exp refl c.eq_ignore_ascii_case-4.ensures.test, c.if-eq_ignore_ascii_case-4.false, ← named-is c.args.ext.now jef refl c.eq_ignore_ascii_case-5.ensures.test, c.if-eq_ignore_ascii_case-5.true)
+
+pub returns-then-eq_ignore_ascii_case-6 : goal.returns-then-eq_ignore_ascii_case-6
+unfolding extension_of named_in
+returns-then-eq_ignore_ascii_case-6 c = rw (← named-is c.args.ext.now pes refl c.eq_ignore_ascii_case.ensures.test, c.if-eq_ignore_ascii_case.false, ← named-is c.args.ext.now pec refl c.eq_ignore_ascii_case-2.ensures.test, c.if-eq_ignore_ascii_case-2.false, ← named-is c.args.ext.now dst refl c.eq_ignore_ascii_case-3.ensures.test, c.if-eq_ignore_ascii_case-3.false, ← named-is c.args.ext.now exp refl c.eq_ignore_ascii_case-4.ensures.test, c.if-eq_ignore_ascii_case-4.false, ← named-is c.args.ext.now jef refl c.eq_ignore_ascii_case-5.ensures.test, c.if-eq_ignore_ascii_case-5.false, ← named-is c.args.ext.now vp3 refl c.eq_ignore_ascii_case-6.ensures.test, c.if-eq_ignore_ascii_case-6.true)
 
 pub returns : goal.returns
 unfolding extension_of named_in
-returns c = rw (← c.is_named.ensures, c.if-is_named.false, ← c.is_named-2.ensures, c.if-is_named-2.false, ← c.is_named-3.ensures, c.if-is_named-3.false, ← c.is_named-4.ensures, c.if-is_named-4.false, ← c.is_named-5.ensures, c.if-is_named-5.false, ← c.is_named-6.ensures, c.if-is_named-6.false)
+returns c = rw (← named-is c.args.ext.now pes refl c.eq_ignore_ascii_case.ensures.test, c.if-eq_ignore_ascii_case.false, ← named-is c.args.ext.now pec refl c.eq_ignore_ascii_case-2.ensures.test, c.if-eq_ignore_ascii_case-2.false, ← named-is c.args.ext.now dst refl c.eq_ignore_ascii_case-3.ensures.test, c.if-eq_ignore_ascii_case-3.false, ← named-is c.args.ext.now exp refl c.eq_ignore_ascii_case-4.ensures.test, c.if-eq_ignore_ascii_case-4.false, ← named-is c.args.ext.now jef refl c.eq_ignore_ascii_case-5.ensures.test, c.if-eq_ignore_ascii_case-5.false, ← named-is c.args.ext.now vp3 refl c.eq_ignore_ascii_case-6.ensures.test, c.if-eq_ignore_ascii_case-6.false)

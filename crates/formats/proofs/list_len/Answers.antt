@@ -5,4 +5,4 @@ use Rattle.formats.proofs.list_len.Goals as goal
 
 pub returns : goal.returns
 returns c = let a = c.args in
-    omega (arith, c.smaller.ensures, c.smaller-n.ensures, length-commands a.xs.now a.ys.now a.kinds.now)
+    omega (arith, c.min.ensures, c.min-2.ensures, length-commands a.xs.now a.ys.now a.kinds.now)

@@ -1,13 +1,15 @@
 -- `near_bounds` meets its contract. The invariant: the four numbers hold the places before i. Assumes nothing.
+use mathlib.Core.Path.{◌∙◌}
 use lib.IntN.{pos}
 use lib.ListN.{get_or}
 use mir.Syntax.{w16, w32}
-use mir.Val.{SFits}
+use mir.Val.{SFits, to_z}
 use Rattle.rules.specs.Lists.{commands}
 use mir.Facts.{to_z-of_z}
 use Rattle.laws.specs.Ints.{ret}
 use native.Mathlib.Omega.{arith}
 use borrow.Author.Rules.{rules}
+use Rattle.geom.proofs.Extremes.{least-is, greatest-is}
 use Rattle.formats.proofs.Framing.{framed-start, framed-more, framed-done, no-bounds, near_fits, fits-back, wider}
 use Rattle.formats.proofs.near_bounds.Goals as goal
 
@@ -38,20 +40,16 @@ bounds-ys-i c = omega arith
 pub overflow_cast-y : goal.overflow_cast-y
 overflow_cast-y c = let a = c.args in rw (ret w32 _ c.y-1.given) (near_fits a.xs.now a.ys.now a.kinds.now c.loop-i.i c.requires (omega arith)).1
 
-pub overflow_add-i : goal.overflow_add-i
-overflow_add-i c = omega arith
-
-pub loop-i-smaller : goal.loop-i-smaller
-loop-i-smaller c = omega arith
-
 pub loop-i-preserved : goal.loop-i-preserved
 loop-i-preserved c = let near : SFits w16 (get_or c.args.xs.now c.loop-i.i (pos 0)) × SFits w16 (get_or c.args.ys.now c.loop-i.i (pos 0)) =
     near_fits c.args.xs.now c.args.ys.now c.args.kinds.now c.loop-i.i c.requires (omega arith) in
     let a = c.args in
-    let x0 = c.least-x0 in
-    let y0 = c.least-y0 in
-    let x1 = c.greatest-x1 in
-    let y1 = c.greatest-y1 in
+    let x0 = c.min-x0 in
+    let y0 = c.min-y0 in
+    let x1 = c.max-x1 in
+    let y1 = c.max-y1 in
+    let x = ret w32 (get_or a.xs.now c.loop-i.i (pos 0)) c.x-1.given in
+    let y = ret w32 (get_or a.ys.now c.loop-i.i (pos 0)) c.y-1.given in
     record {
       left = fits-back w16 x0.result x0.type_inv;
       top = fits-back w16 y0.result y0.type_inv;
@@ -63,14 +61,10 @@ loop-i-preserved c = let near : SFits w16 (get_or c.args.xs.now c.loop-i.i (pos 
             ret w16 y0.result y0.type_inv,
             ret w16 x1.result x1.type_inv,
             ret w16 y1.result y1.type_inv,
-            x0.ensures,
-            y0.ensures,
-            x1.ensures,
-            y1.ensures,
-            ret w32 (get_or a.xs.now c.loop-i.i (pos 0)) c.x-1.given,
-            ret w32 (get_or a.ys.now c.loop-i.i (pos 0)) c.y-1.given,
-            to_z-of_z near.0,
-            to_z-of_z near.1,
+            (rw (x, to_z-of_z near.0) at x0.ensures.value) ∙ least-is (to_z w16 c.loop-i.x0-bits) (get_or a.xs.now c.loop-i.i (pos 0)),
+            (rw (y, to_z-of_z near.1) at y0.ensures.value) ∙ least-is (to_z w16 c.loop-i.y0-bits) (get_or a.ys.now c.loop-i.i (pos 0)),
+            (rw (x, to_z-of_z near.0) at x1.ensures.value) ∙ greatest-is (to_z w16 c.loop-i.x1-bits) (get_or a.xs.now c.loop-i.i (pos 0)),
+            (rw (y, to_z-of_z near.1) at y1.ensures.value) ∙ greatest-is (to_z w16 c.loop-i.y1-bits) (get_or a.ys.now c.loop-i.i (pos 0)),
           )
           (framed-more c.loop-i.invariant.framed c.loop-i-test.true);
     }

@@ -26,14 +26,6 @@ pub bounds-out-i : goal.bounds-out-i
 unfolding choices pec_chart pec_palette
 bounds-out-i c = omega arith
 
-pub overflow_add-i : goal.overflow_add-i
-unfolding choices pec_chart pec_palette
-overflow_add-i c = omega arith
-
-pub loop-i-smaller : goal.loop-i-smaller
-unfolding choices pec_chart pec_palette
-loop-i-smaller c = omega arith
-
 pub loop-i-preserved : goal.loop-i-preserved
 unfolding choices pec_chart pec_palette
 loop-i-preserved c = let l = c.loop-i in

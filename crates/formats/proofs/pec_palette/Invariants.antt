@@ -1,5 +1,5 @@
 -- `pec_palette` meets its contract. The invariant: the entries before i stand, the others are still to come. Assumes nothing.
-use Prim.Native.Nat.{◌≤◌, ◌-◌}
+use Prim.Native.Nat.{◌≤◌}
 use lib.ListN.{drop}
 use Rattle.rules.specs.Choices.{pec_palette}
 use Rattle.laws.specs.Buffers.{Writing}
@@ -7,6 +7,3 @@ use Rattle.formats.proofs.pec_palette.Given as goal
 
 abbrev pub invariant-loop-i : goal.invariant-loop-i
 invariant-loop-i l = (1 ≤ l.i) × ((l.i ≤ 65) × Writing l.initial.out 1 (drop 1 pec_palette) l.out l.i (drop l.i pec_palette))
-
-abbrev pub decreases-loop-i : goal.decreases-loop-i
-decreases-loop-i l = 65 - l.i

@@ -30,12 +30,6 @@ offset_bounds-ys-i c = omega (arith, c.well_formed)
 pub bounds-ys-i : goal.bounds-ys-i
 bounds-ys-i c = omega arith
 
-pub overflow_add-i : goal.overflow_add-i
-overflow_add-i c = omega arith
-
-pub loop-i-smaller : goal.loop-i-smaller
-loop-i-smaller c = omega arith
-
 pub loop-i-preserved : goal.loop-i-preserved
 loop-i-preserved c =
     let l = c.loop-i in

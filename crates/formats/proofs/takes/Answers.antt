@@ -1,5 +1,8 @@
--- `takes` meets its contract. Assumes nothing.
+-- of equal distances the later or the first
 use Rattle.formats.proofs.takes.Goals as goal
 
+pub returns-then-later : goal.returns-then-later
+returns-then-later c = rw (c.in-Some.is, c.if-later.true)
+
 pub returns : goal.returns
-returns c = rw c.in-Near.is
+returns c = rw (c.in-Some.is, c.if-later.false)

@@ -32,12 +32,6 @@ bounds-kinds-i c = omega arith
 pub overflow_add-total : goal.overflow_add-total
 overflow_add-total c = omega (arith, c.points_in-total.ensures.1, c.requires)
 
-pub overflow_add-i : goal.overflow_add-i
-overflow_add-i c = omega arith
-
-pub loop-i-smaller : goal.loop-i-smaller
-loop-i-smaller c = omega arith
-
 pub loop-i-preserved : goal.loop-i-preserved
 loop-i-preserved c = let l = c.loop-i in
     let a = c.args in

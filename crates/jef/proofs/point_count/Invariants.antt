@@ -1,5 +1,5 @@
 -- The count for the list, and one, is what was counted and the count for the commands that are left.
-use Prim.Native.Nat.{◌+◌, ◌-◌, ◌*◌, ◌≤◌}
+use Prim.Native.Nat.{◌+◌, ◌*◌, ◌≤◌}
 use mathlib.Core.Path.{◌≡◌}
 use lib.ListN.{length, drop}
 use Rattle.rules.specs.Jef.{point_count_of}
@@ -12,6 +12,3 @@ invariant-loop-i l =
     × ((l.n ≤ length l.kinds)
     × ((l.total ≤ 1 + 2 * l.i)
     × (point_count_of (commands l.xs l.ys l.kinds) + 1 ≡ l.total + point_count_of (drop l.i (commands l.xs l.ys l.kinds)))))
-
-abbrev pub decreases-loop-i : goal.decreases-loop-i
-decreases-loop-i l = l.n - l.i

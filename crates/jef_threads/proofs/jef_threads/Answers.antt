@@ -21,12 +21,6 @@ jef_thread-requires c = omega arith
 pub bounds-out-i : goal.bounds-out-i
 bounds-out-i c = omega arith
 
-pub overflow_add-i : goal.overflow_add-i
-overflow_add-i c = omega arith
-
-pub loop-i-smaller : goal.loop-i-smaller
-loop-i-smaller c = omega arith
-
 pub loop-i-preserved : goal.loop-i-preserved
 unfolding jef_palette
 loop-i-preserved c = let l = c.loop-i in

@@ -10,17 +10,11 @@ use Rattle.pec.proofs.are_short.Goals as goal
 pub loop-k-init : goal.loop-k-init
 loop-k-init c = (omega arith, (omega arith, λ e. shorts-none _ _ _ _))
 
-pub overflow_add-i : goal.overflow_add-i
-overflow_add-i c = let a = c.args in omega (arith, length-commands a.xs.now a.ys.now a.kinds.now)
+pub overflow_add-k-end : goal.overflow_add-k-end
+overflow_add-k-end c = let a = c.args in omega (arith, length-commands a.xs.now a.ys.now a.kinds.now)
 
 pub is_short_at-all-requires : goal.is_short_at-all-requires
 is_short_at-all-requires c = record { i_nonzero = (omega arith, omega arith); kinds_value = c.requires.kinds_value }
-
-pub overflow_add-k : goal.overflow_add-k
-overflow_add-k c = let a = c.args in omega (arith, length-commands a.xs.now a.ys.now a.kinds.now)
-
-pub loop-k-smaller : goal.loop-k-smaller
-loop-k-smaller c = omega arith
 
 pub loop-k-preserved : goal.loop-k-preserved
 loop-k-preserved c =

@@ -36,7 +36,7 @@ pub step-dx-requires : goal.step-dx-requires
 step-dx-requires c =
     let near : (let a = c.args in Step (step_to a.xs.now a.i) (step_to a.ys.now a.i)) = let a = c.args in
     near_step a.xs.now a.ys.now a.kinds.now c.requires.kinds_value a.i c.requires.i_nonzero.0 c.requires.i_nonzero.1 in
-    rw (read_step c.args.xs.now c.args.i c.step-arg-1.given c.step-arg-2-1.given) near.x
+    rw (read_step c.args.xs.now c.args.i c.step-arg-1.given c.step-arg-2-1.given) (omega (arith, near.x))
 
 pub offset_bounds-ys-i : goal.offset_bounds-ys-i
 offset_bounds-ys-i c =
@@ -62,7 +62,7 @@ pub step-dy-requires : goal.step-dy-requires
 step-dy-requires c =
     let near : (let a = c.args in Step (step_to a.xs.now a.i) (step_to a.ys.now a.i)) = let a = c.args in
     near_step a.xs.now a.ys.now a.kinds.now c.requires.kinds_value a.i c.requires.i_nonzero.0 c.requires.i_nonzero.1 in
-    rw (read_step c.args.ys.now c.args.i c.step-arg-3-1.given c.step-arg-4-1.given) near.y
+    rw (read_step c.args.ys.now c.args.i c.step-arg-3-1.given c.step-arg-4-1.given) (omega (arith, near.y))
 
 pub bounds-kinds-i : goal.bounds-kinds-i
 bounds-kinds-i c =

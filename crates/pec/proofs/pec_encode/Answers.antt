@@ -87,7 +87,7 @@ loop-i-smaller-then-is_going c =
     let a = c.args in
     let loop = c.loop-i in
     Took a.xs.now a.ys.now a.kinds.now c.list_len-n.result loop.i loop.s loop.last c.cmd_at-c.result c.step_to-by.result) = record { walk = c.loop-i.invariant.0; inside = c.loop-i-test.true; is = c.cmd_at-c.ensures; step = c.step_to-by.ensures } in
-    turns_next took c.loop-i.wait c.one_less-wait.result
+    turns_next took c.loop-i.wait c.saturating_sub-wait.result
 
 pub loop-i-preserved-then-is_going : goal.loop-i-preserved-then-is_going
 loop-i-preserved-then-is_going c =
@@ -116,7 +116,7 @@ loop-i-smaller c =
     let a = c.args in
     let loop = c.loop-i in
     Took a.xs.now a.ys.now a.kinds.now c.list_len-n.result loop.i loop.s loop.last c.cmd_at-c.result c.step_to-by.result) = record { walk = c.loop-i.invariant.0; inside = c.loop-i-test.true; is = c.cmd_at-c.ensures; step = c.step_to-by.ensures } in
-    turns_next took c.loop-i.wait c.one_less-wait.result
+    turns_next took c.loop-i.wait c.saturating_sub-wait.result
 
 pub loop-i-preserved : goal.loop-i-preserved
 loop-i-preserved c =

@@ -94,9 +94,6 @@ put2-to-requires c =
     let vs = bits_of 6 (step_to a.xs.now k) ∷ bits_of 6 (step_to a.ys.now k) ∷ [] in
     writing-room vs (pairs a.xs.now a.ys.now (k + 1) (a.j - (k + 1))) c.loop-k.invariant.1 (more-pairs a.xs.now a.ys.now k a.j c.loop-k-test.true)
 
-pub loop-k-smaller : goal.loop-k-smaller
-loop-k-smaller c = omega arith
-
 pub shape_of-out : goal.shape_of-out
 shape_of-out c = c.loop-k.invariant.1.same
 

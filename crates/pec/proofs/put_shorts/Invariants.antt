@@ -7,6 +7,3 @@ use Rattle.pec.proofs.put_shorts.Given as goal
 abbrev pub invariant-loop-k : goal.invariant-loop-k
 invariant-loop-k l =
     (l.i ≤ l.k) × Writing l.initial.out l.at (pairs l.xs l.ys l.i (l.j - l.i)) l.out l.to (pairs l.xs l.ys l.k (l.j - l.k))
-
-abbrev pub decreases-loop-k : goal.decreases-loop-k
-decreases-loop-k l = l.j - l.k

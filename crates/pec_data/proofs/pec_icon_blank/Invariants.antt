@@ -13,6 +13,3 @@ rows (suc k) = set (set (rows k) (6 * (2 + k)) (edge_of (2 + k))) (6 * (2 + k) +
 
 abbrev pub invariant-loop-row : goal.invariant-loop-row
 invariant-loop-row l = (2 ≤ l.row) × ((l.row ≤ 36) × (l.icon ≡ rows (l.row - 2)))
-
-abbrev pub decreases-loop-row : goal.decreases-loop-row
-decreases-loop-row l = 36 - l.row

@@ -13,8 +13,8 @@ returns-in_default c = search rules
 pub returns-then-i-ge65 : goal.returns-then-i-ge65
 unfolding set_at
 returns-then-i-ge65 c = let a = c.args in
-    rw c.in-Near.is (sym (set_out a.entries _ a.s (omega arith)))
+    rw c.in-Some.is (sym (set_out a.entries _ a.s (omega arith)))
 
 pub returns : goal.returns
 unfolding set_at
-returns c = rw c.in-Near.is
+returns c = rw c.in-Some.is

@@ -23,24 +23,20 @@ loop-i-init c = (omega arith, refl)
 pub thread_at-requires : goal.thread_at-requires
 thread_at-requires c = omega (arith, c.requires)
 
-pub returns-then-same_color : goal.returns-then-same_color
-returns-then-same_color c = let loop-test = c.loop-i-test in let l = c.loop-i in
+pub returns-then-eq : goal.returns-then-eq
+unfolding same_color
+returns-then-eq c = let loop-test = c.loop-i-test in let l = c.loop-i in
     let ts = threads_of c.args.threads.now in
     any-hit (same_color c.args.t) (take c.args.n ts) (color 0 0 0) l.i l.invariant.1 (omega (arith, length-take-le c.args.n ts c.requires))
-    (test c.args.t ts c.args.n l.i loop-test.true c.thread_at.ensures c.same_color.ensures ∙ c.if-same_color.true)
-
-pub overflow_add-i : goal.overflow_add-i
-overflow_add-i c = omega arith
-
-pub loop-i-smaller : goal.loop-i-smaller
-loop-i-smaller c = omega arith
+    (test c.args.t ts c.args.n l.i loop-test.true c.thread_at.ensures c.eq.ensures ∙ c.if-eq.true)
 
 pub loop-i-preserved : goal.loop-i-preserved
+unfolding same_color
 loop-i-preserved c = let loop-test = c.loop-i-test in let l = c.loop-i in
     let ts = threads_of c.args.threads.now in (
       omega arith,
       any-miss (same_color c.args.t) (take c.args.n ts) (color 0 0 0) l.i l.invariant.1 (omega (arith, length-take-le c.args.n ts c.requires))
-          (test c.args.t ts c.args.n l.i loop-test.true c.thread_at.ensures c.same_color.ensures ∙ c.if-same_color.false),
+          (test c.args.t ts c.args.n l.i loop-test.true c.thread_at.ensures c.eq.ensures ∙ c.if-eq.false),
     )
 
 pub returns : goal.returns

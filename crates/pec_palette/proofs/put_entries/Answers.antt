@@ -44,12 +44,6 @@ put-to-requires c =
     c.entry_in-e.ensures.0 in
     writing-room (c.entry_in-e.result ∷ []) _ c.loop-i.invariant.0 turn
 
-pub overflow_add-i : goal.overflow_add-i
-overflow_add-i c = omega arith
-
-pub loop-i-smaller : goal.loop-i-smaller
-loop-i-smaller c = omega arith
-
 pub loop-i-preserved : goal.loop-i-preserved
 loop-i-preserved c =
     let turn : (let a = c.args in
@@ -64,7 +58,7 @@ loop-i-preserved c =
     let l = c.loop-i in (
       writing_more l.invariant.0 turn c.put-to.ensures,
       off-more _ a.chart (threads_of s) l.i l.far (omega (arith, length-threads s)) c.thread_at-t.ensures
-          c.entry_in-e.ensures.0 c.away.ensures c.larger-far.ensures l.invariant.1,
+          c.entry_in-e.ensures.0 c.away.ensures c.max-far.ensures l.invariant.1,
     )
 
 pub shape_of-out : goal.shape_of-out

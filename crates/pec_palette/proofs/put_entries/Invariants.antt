@@ -1,5 +1,4 @@
 -- One thread less is left.
-use Prim.Native.Nat.{◌-◌}
 use lib.ListN.{drop}
 use Rattle.rules.specs.Lists.{threads_of}
 use Rattle.laws.specs.Buffers.{Writing}
@@ -11,6 +10,3 @@ abbrev pub invariant-loop-i : goal.invariant-loop-i
 invariant-loop-i l =
     Writing l.initial.out l.at (entries_in l.chart (threads_of l.threads)) l.out l.to (entries_in l.chart (drop l.i (threads_of l.threads)))
     × Off l.own l.chart (threads_of l.threads) l.i l.far
-
-abbrev pub decreases-loop-i : goal.decreases-loop-i
-decreases-loop-i l = l.n - l.i

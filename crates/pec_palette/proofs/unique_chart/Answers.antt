@@ -16,12 +16,6 @@ thread_at-t-requires c = omega (arith, length-threads c.args.threads.now)
 pub new_entry-found-requires : goal.new_entry-found-requires
 new_entry-found-requires c = omega (arith, length-threads c.args.threads.now)
 
-pub overflow_add-i : goal.overflow_add-i
-overflow_add-i c = omega arith
-
-pub loop-i-smaller : goal.loop-i-smaller
-loop-i-smaller c = omega arith
-
 pub loop-i-preserved : goal.loop-i-preserved
 loop-i-preserved c = let l = c.loop-i in
     let s = c.args.threads.now in

@@ -15,12 +15,8 @@ overflow_cast-black c = omega (arith, c.code_in-black.ensures, code-small (color
 pub loop-i-init : goal.loop-i-init
 loop-i-init c = (omega arith, coding-start (threads_of c.args.threads.now) c.code_in-black.ensures)
 
-pub returns-then-threads-i : goal.returns-then-threads-i
-returns-then-threads-i c = let s = c.args.threads.now in
-    coding-done (threads_of s) c.loop-i.invariant.1 (λ k l h. omega (arith, c.if-threads-i.true, length-threads s))
-
 pub thread_at-requires : goal.thread_at-requires
-thread_at-requires c = omega (arith, c.if-threads-i.false, length-threads c.args.threads.now)
+thread_at-requires c = omega (arith, c.min-n.ensures, length-threads c.args.threads.now)
 
 pub code_in-requires : goal.code_in-requires
 code_in-requires c = c.pec_palette-chart.ensures
@@ -31,16 +27,11 @@ overflow_cast-codes c = omega (arith, c.code_in.ensures, code-small c.thread_at.
 pub bounds-codes-i : goal.bounds-codes-i
 bounds-codes-i c = omega arith
 
-pub overflow_add-i : goal.overflow_add-i
-overflow_add-i c = omega arith
-
-pub loop-i-smaller : goal.loop-i-smaller
-loop-i-smaller c = omega arith
-
 pub loop-i-preserved : goal.loop-i-preserved
-loop-i-preserved c = let loop-test = c.loop-i-test in let loop = c.loop-i in
-    (omega arith, coding-more (threads_of c.args.threads.now) loop.invariant.1 loop-test.true c.thread_at.ensures c.code_in.ensures)
+loop-i-preserved c = let loop = c.loop-i in
+    (omega arith, coding-more (threads_of c.args.threads.now) loop.invariant.1 (omega (arith, c.min-n.ensures)) c.thread_at.ensures c.code_in.ensures)
 
 pub returns : goal.returns
 returns c =
-    coding-done (threads_of c.args.threads.now) c.loop-i.invariant.1 (λ k l h. absurd (omega (arith, c.loop-i-test.false)))
+    let s = c.args.threads.now in
+    coding-done (threads_of s) c.loop-i.invariant.1 (λ k l h. omega (arith, c.min-n.ensures, length-threads s))

@@ -9,17 +9,11 @@ use Rattle.pes_sections.proofs.are_alike.Goals as goal
 pub loop-k-init : goal.loop-k-init
 loop-k-init c = (omega arith, (omega arith, λ e. alike-none c.args.kinds.now c.args.kind c.args.i))
 
-pub overflow_add-i : goal.overflow_add-i
-overflow_add-i c = omega arith
+pub overflow_add-k-end : goal.overflow_add-k-end
+overflow_add-k-end c = omega arith
 
 pub bounds-kinds-k : goal.bounds-kinds-k
 bounds-kinds-k c = omega arith
-
-pub overflow_add-k : goal.overflow_add-k
-overflow_add-k c = omega arith
-
-pub loop-k-smaller : goal.loop-k-smaller
-loop-k-smaller c = omega arith
 
 pub loop-k-preserved : goal.loop-k-preserved
 loop-k-preserved c =

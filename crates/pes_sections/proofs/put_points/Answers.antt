@@ -54,12 +54,6 @@ put_point-to-requires c = let a = c.args in
     rw (ret w32 px c.put_point-arg-1.given, ret w32 py c.put_point-arg-in-loop-k-1.given)
     (record { near = near-at a.xs.now a.ys.now a.kinds.now loop.k loop.invariant.1.0 (omega arith); at_in_bounds = rw length-point at room })
 
-pub overflow_add-k : goal.overflow_add-k
-overflow_add-k c = omega arith
-
-pub loop-k-smaller : goal.loop-k-smaller
-loop-k-smaller c = omega arith
-
 pub loop-k-preserved : goal.loop-k-preserved
 loop-k-preserved c =
     let loop = c.loop-k in

@@ -11,6 +11,3 @@ invariant-loop-k l =
     (l.k ≤ l.j)
     × (placed l.left l.bottom (commands l.xs l.ys l.kinds)
     × Writing l.initial.out l.at (points l.left l.bottom l.xs l.ys l.i (l.j - l.i)) l.out l.to (points l.left l.bottom l.xs l.ys l.k (l.j - l.k)))
-
-abbrev pub decreases-loop-k : goal.decreases-loop-k
-decreases-loop-k l = l.j - l.k

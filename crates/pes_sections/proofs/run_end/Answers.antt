@@ -10,16 +10,16 @@ use Rattle.pes_sections.proofs.run_end.Goals as goal
 pub bounds-kinds-from : goal.bounds-kinds-from
 bounds-kinds-from c = let a = c.args in omega (arith, length-commands a.xs.now a.ys.now a.kinds.now)
 
-pub alike_till-i-requires : goal.alike_till-i-requires
-alike_till-i-requires c = let a = c.args in
+pub alike_till-rest-requires : goal.alike_till-rest-requires
+alike_till-rest-requires c = let a = c.args in
     let long = length-commands a.xs.now a.ys.now a.kinds.now in
     (omega (arith, c.list_len-n.ensures), omega (arith, long, c.list_len-n.ensures))
 
 pub loop-i-init : goal.loop-i-init
 loop-i-init c = let a = c.args in
     let n = c.list_len-n.ensures in
-    let end = c.alike_till-i.result in
-    let w = c.alike_till-i.ensures in
+    let end = c.alike_till-rest.result in
+    let w = c.alike_till-rest.ensures in
     let kind = get_or a.kinds.now a.from 0 in
     (n, alike-run a.xs.now a.ys.now a.kinds.now kind (end - a.from) a.from end (omega (arith, w.0)) (omega (arith, w.1.0, n)) w.1.1)
 
@@ -32,12 +32,6 @@ returns-then-kinds-i c = let a = c.args in
     let loop = c.loop-i in
     let stop = run-stops a.xs.now a.ys.now a.kinds.now loop.i (get_or a.kinds.now a.from 0) (omega arith) c.if-kinds-i.true in
     omega (arith, stop, loop.invariant.1)
-
-pub overflow_add-i : goal.overflow_add-i
-overflow_add-i c = omega arith
-
-pub loop-i-smaller : goal.loop-i-smaller
-loop-i-smaller c = omega arith
 
 pub loop-i-preserved : goal.loop-i-preserved
 loop-i-preserved c = let a = c.args in

@@ -1,12 +1,8 @@
--- The text without its last blanks is that of the bytes before e. Assumes nothing.
-use Prim.Native.Nat.{◌≤◌}
+-- The text without its last blanks is that of the bytes before i. Assumes nothing.
 use mathlib.Core.Path.{◌≡◌}
-use lib.ListN.{length, take}
+use lib.ListN.{take}
 use Rattle.rules.specs.Text.{trim_end}
 use Rattle.read_header.proofs.end_of.Given as goal
 
-abbrev pub invariant-loop-e : goal.invariant-loop-e
-invariant-loop-e l = (l.e ≤ length l.s) × (trim_end l.s ≡ trim_end (take l.e l.s))
-
-abbrev pub decreases-loop-e : goal.decreases-loop-e
-decreases-loop-e l = l.e
+abbrev pub invariant-loop-i : goal.invariant-loop-i
+invariant-loop-i l = trim_end l.s ≡ trim_end (take l.i l.s)

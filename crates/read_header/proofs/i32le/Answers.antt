@@ -1,12 +1,11 @@
--- `i32le` meets its contract. Assumes nothing.
+-- The four bytes are there, or the file ends before the last. Assumes nothing.
+use Rattle.std.specs.Prelude.{Some}
 use borrow.Author.Tests.{le-leb, lt-leb}
 use mir.Syntax.{w32}
 use Rattle.laws.specs.Ints.{ret}
 use Prim.Native.Nat.{◌+◌}
-use Rattle.read_header.specs.declared.Word.TheVariants.{Number}
 use mathlib.Core.Path.{ap, ◌∙◌}
-use Rattle.rules.specs.Text.{word_at}
-use Rattle.read_header.proofs.Words.{four}
+use Rattle.read_header.proofs.Words.{word}
 use native.Mathlib.Omega.{arith}
 use lib.ListN.{length}
 use Rattle.read_header.proofs.i32le.Goals as goal
@@ -18,7 +17,6 @@ pub returns-then-file-at : goal.returns-then-file-at
 returns-then-file-at c = let a = c.args in rw (lt-leb (a.at + 4) (length a.file.now) (omega arith))
 
 pub returns : goal.returns
-unfolding word_at
 returns c = let a = c.args in let s = a.file.now in
-    rw (le-leb (a.at + 4) (length s) (omega arith), four s a.at (omega arith), ← c.of_bytes-n.ensures)
-    (ap Number (ret w32 c.signed32.result c.signed32.type_inv ∙ c.signed32.ensures))
+    rw (le-leb (a.at + 4) (length s) (omega arith))
+    (ap Some (ret w32 c.from_le_bytes.result c.from_le_bytes.type_inv ∙ c.from_le_bytes.ensures ∙ word s a.at (omega arith)))

@@ -14,5 +14,5 @@ pub returns : goal.returns
 unfolding from_chart jef_entry
 returns c = let a = c.args in
     let t = word-there (116 + 4 * a.k) a.file.now c.i32le-w.ensures
-    c.in-Number.is (omega arith) in
-    rw (t.1, ← c.magnitude-entry.ensures) (rw c.jef_thread.ensures at c.cell_of.ensures)
+    c.in-Some.is (omega arith) in
+    rw (t.1, ← c.unsigned_abs.ensures.value) (rw c.jef_thread.ensures at c.cell_of.ensures)

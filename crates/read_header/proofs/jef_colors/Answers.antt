@@ -31,12 +31,6 @@ returns-then-file-k c = let f = c.args.file.now in record {
 pub jef_cell-requires : goal.jef_cell-requires
 jef_cell-requires c = (omega arith, omega arith)
 
-pub overflow_add-k-in-loop-k : goal.overflow_add-k-in-loop-k
-overflow_add-k-in-loop-k c = omega arith
-
-pub loop-k-smaller : goal.loop-k-smaller
-loop-k-smaller c = omega arith
-
 pub loop-k-preserved : goal.loop-k-preserved
 unfolding jef_stored
 loop-k-preserved c = let h = c.loop-k in let f = c.args.file.now in
@@ -50,6 +44,6 @@ pub returns : goal.returns
 unfolding jef_stored
 returns c = record {
   room = omega arith;
-  here = c.loop-k.invariant.held;
+  here = λ j l. c.loop-k.invariant.held j (omega arith);
   past = λ j l. rw (le-ltb j (jef_count c.args.file.now) (omega arith));
 }

@@ -1,15 +1,16 @@
 -- The colours of the whole text are those in the cells and those of the lines that are left. Assumes nothing.
+use Rattle.std.specs.Prelude.{Option}
 use Prim.Native.Nat.{◌+◌, ◌-◌}
 use mathlib.Core.Path.{refl, sym, ap, ◌∙◌}
 use native.Mathlib.Omega.{arith}
 use lib.ListN.{take, drop, length-take}
 use Rattle.rules.specs.Text.{lines_of}
 use Rattle.rules.specs.Dst.{line_colors, add_color}
-use Rattle.rules.specs.declared.Slot.{Slot}
 use Rattle.read_header.specs.Lines.{lines_from}
 use Rattle.read_header.proofs.Colors.{listed_start, listed_more, listed-done, color-long}
 use Rattle.read_header.proofs.Lines.{lines-all, lines_none}
 use Rattle.read_header.proofs.line_colors.Goals as goal
+use Rattle.rules.specs.declared.Color.{Color}
 
 pub loop-at-init : goal.loop-at-init
 loop-at-init c = let s = c.args.s.now in
@@ -41,7 +42,7 @@ loop-at-preserved c = let put-color = c.put_color-n in let line-color = c.line_c
       (
         omega (arith, put-color.auto.colors, h.invariant.1.0),
         listed_more (line_colors (lines_of s)) h.colors h.n h.at e (omega (arith, h.invariant.1.1.bytes)) line-color.result put-color.ensures
-            (ap line_colors line-end.ensures.lines ∙ ap (λ (c : Slot). add_color c (line_colors (lines_from (e + 1) s))) (sym q))
+            (ap line_colors line-end.ensures.lines ∙ ap (λ (c : Option Color). add_color c (line_colors (lines_from (e + 1) s))) (sym q))
             line-end.ensures.starts
             (λ t p. omega (arith, color-long l t (sym q ∙ p), length-take (e - h.at) (drop h.at s)))
             h.invariant.1.1,

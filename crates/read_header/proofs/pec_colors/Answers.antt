@@ -16,12 +16,6 @@ loop-k-init c = filled-start (omega (arith, c.well_formed))
 pub pec_cell-requires : goal.pec_cell-requires
 pec_cell-requires c = omega arith
 
-pub overflow_add-k : goal.overflow_add-k
-overflow_add-k c = omega arith
-
-pub loop-k-smaller : goal.loop-k-smaller
-loop-k-smaller c = omega arith
-
 pub loop-k-preserved : goal.loop-k-preserved
 unfolding pec_stored
 loop-k-preserved c = let h = c.loop-k in let a = c.args in

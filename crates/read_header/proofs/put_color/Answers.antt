@@ -6,4 +6,4 @@ pub returns-in_default : goal.returns-in_default
 returns-in_default c = rw c.in_default.is (refl, refl)
 
 pub returns : goal.returns
-returns c = rw c.in-Thread.is (refl, (_, (c.cell_of.ensures, refl)))
+returns c = rw c.in-Some.is (refl, (_, (c.cell_of.ensures, refl)))

@@ -4,7 +4,6 @@ use mathlib.Core.Path.{sym}
 use native.Mathlib.Omega.{arith}
 use lib.ListN.{get_or}
 use Rattle.laws.specs.Jobs.{two_at}
-use borrow.Author.Rules.{rules}
 use Rattle.read_job_fields.proofs.le16.Goals as goal
 
 small : (c : goal.After-shared_slice_known-2-1) →

@@ -1,11 +1,7 @@
 -- One row after the other.
-use Prim.Native.Nat.{◌-◌}
-use lib.ListN.{length}
+use Rattle.std.proofs.Common.{◌*◌}
 use Rattle.read_job_tally.proofs.Gathering.{Gathering}
 use Rattle.read_job_tally.proofs.with_rows.Given as goal
 
-abbrev pub invariant-loop-at : goal.invariant-loop-at
-invariant-loop-at l = Gathering l.bytes l.initial.now l.now l.at
-
-abbrev pub decreases-loop-at : goal.decreases-loop-at
-decreases-loop-at l = length l.bytes - l.at
+abbrev pub invariant-loop-i : goal.invariant-loop-i
+invariant-loop-i l = Gathering l.bytes l.initial.now l.now (5 * l.i)

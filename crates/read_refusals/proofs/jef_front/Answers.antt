@@ -9,4 +9,4 @@ returns-in_default c = let s = c.args.file.now in
 
 pub returns : goal.returns
 returns c = let s = c.args.file.now in
-    jef-whole s (word-there 0 s c.i32le.ensures c.in-Number.is c.in-Number.known_told-1-own.given.0.1)
+    jef-whole s (word-there 0 s c.i32le.ensures c.in-Some.is c.in-Some.known_told-1-own.given.0.1)

@@ -9,4 +9,4 @@ returns-in_default c = let s = c.args.file.now in
 
 pub returns : goal.returns
 returns c = let s = c.args.file.now in
-    counted _ s (byte-there _ _ s (sym c.byte_of.ensures ∙ c.in-Value.is))
+    counted _ s (byte-there _ _ s (sym c.byte_of.ensures ∙ c.in-Some.is))

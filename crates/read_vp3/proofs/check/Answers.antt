@@ -1,15 +1,9 @@
 -- The colour blocks of the design part, or a refusal before it.
-use mathlib.Core.Path.{ap}
+use Rattle.std.proofs.Common.{ap}
 use Rattle.rules.specs.Vp3.{fault_in}
+use Rattle.laws.specs.Exits.{exit}
 use Rattle.read_vp3.proofs.check.Goals as goal
 
-pub check_blocks-requires : goal.check_blocks-requires
-check_blocks-requires c = let l = (rw c.in-Of.is at c.design_of.ensures).lies in
-    (l.0, (l.1, c.requires.1))
-
-pub returns-in-Of : goal.returns-in-Of
-returns-in-Of c = rw (rw c.in-Of.is at c.design_of.ensures).tells c.check_blocks.ensures
-
-pub returns-in-Not : goal.returns-in-Not
+pub returns-in_err-design : goal.returns-in_err-design
 unfolding fault_in
-returns-in-Not c = ap fault_in (rw c.in-Not.is at c.design_of.ensures).tells
+returns-in_err-design c = rw (exit c.from_residual.ensures.1) (ap fault_in c.in_err-design.ensures.tells)

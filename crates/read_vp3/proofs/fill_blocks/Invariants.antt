@@ -5,9 +5,6 @@ use Rattle.read_vp3_fields.specs.Fields.{within}
 use Rattle.read_vp3.proofs.Blockwise.{Going}
 use Rattle.read_vp3.proofs.fill_blocks.Given as goal
 
-abbrev pub invariant-loop-left : goal.invariant-loop-left
-invariant-loop-left l =
-    Going l.file l.end (blocks_from l.count (pos 0) (pos 0) (within l.file l.from l.end)) l.initial.places l.initial.runs l.initial.blocks l.left l.f l.places l.runs l.blocks
-
-abbrev pub decreases-loop-left : goal.decreases-loop-left
-decreases-loop-left l = l.left
+abbrev pub invariant-loop-n : goal.invariant-loop-n
+invariant-loop-n l =
+    Going l.file l.end (blocks_from l.count (pos 0) (pos 0) (within l.file l.from l.end)) l.initial.places l.initial.runs l.initial.blocks l.n l.f l.places l.runs l.blocks

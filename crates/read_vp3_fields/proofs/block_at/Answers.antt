@@ -1,24 +1,23 @@
--- The part behind three bytes, or a refusal before it. Assumes nothing.
-use native.Mathlib.Omega.{arith}
+-- Three bytes, and the colour part.
+use Rattle.std.proofs.Common.{Err}
 use mir.Facts.{to_z-of_z}
-use Rattle.read_vp3_fields.proofs.Within.{Behind, behind, behind-of, behind-not, block_on, block-not}
+use Rattle.rules.specs.Vp3.{skip}
+use Rattle.laws.specs.Exits.{exit}
+use Rattle.read_vp3_fields.proofs.Within.{fixed-err, behind, block_not, block_on}
 use Rattle.read_vp3_fields.proofs.block_at.Goals as goal
 
-pub part_from-requires : goal.part_from-requires
-part_from-requires c = ((c.skip.ensures c.args.file.now c.requires.1).sound, c.requires.1)
+pub returns-in_err-at : goal.returns-in_err-at
+unfolding skip
+returns-in_err-at c =
+    rw (exit c.from_residual.ensures.1)
+    (block_not _ _ _ c.requires.1 (λ go. fixed-err _ _ _ c.requires.1 3 c.requires.0 _ c.in_err-at.ensures))
 
-pub color_part-requires : goal.color_part-requires
-color_part-requires c =
-    let here : (let a = c.args in Behind a.file.now a.from a.to c.part_from.result) = behind _ _ _ c.skip.result _ c.requires c.skip.ensures c.part_from.ensures in
-    let b = behind-of here c.in-Of.is in (b.lies.1.0, omega (arith, b.lies))
+pub returns-in_err-part : goal.returns-in_err-part
+returns-in_err-part c =
+    rw (exit c.from_residual-in_err-part.ensures.1)
+    (block_not _ _ _ c.requires.1 (behind _ _ _ c.requires.1 (Err _) c.in_ok-at.ensures c.in_err-part.ensures))
 
-pub returns-in-Of : goal.returns-in-Of
-returns-in-Of c =
-    let here : (let a = c.args in Behind a.file.now a.from a.to c.part_from.result) = behind _ _ _ c.skip.result _ c.requires c.skip.ensures c.part_from.ensures in
-    block_on (behind-of here c.in-Of.is) c.color_part.result
+pub returns : goal.returns
+returns c =
+    block_on _ _ _ c.requires.1 c.in_ok-at.ensures c.in_ok-part.ensures _
     (rw (to_z-of_z c.ranges.x, to_z-of_z c.ranges.y) at c.color_part.ensures)
-
-pub returns-in-Not : goal.returns-in-Not
-returns-in-Not c =
-    let here : (let a = c.args in Behind a.file.now a.from a.to c.part_from.result) = behind _ _ _ c.skip.result _ c.requires c.skip.ensures c.part_from.ensures in
-    block-not (behind-not here c.in-Not.is)

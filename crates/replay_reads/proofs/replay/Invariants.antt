@@ -1,9 +1,6 @@
--- `replay` is safe and ends: it counts down. Assumes nothing.
+-- `replay` is safe: each case leaves the buffers as long as they were. Assumes nothing.
 use Rattle.replay_reads.specs.Room.{Roomy}
 use Rattle.replay_reads.proofs.replay.Given as goal
 
-abbrev pub invariant-loop-left : goal.invariant-loop-left
-invariant-loop-left g l = Roomy l.case l.places l.runs l.blocks
-
-abbrev pub decreases-loop-left : goal.decreases-loop-left
-decreases-loop-left g l = l.left
+abbrev pub invariant-loop : goal.invariant-loop
+invariant-loop g l = Roomy l.case l.places l.runs l.blocks

@@ -2,12 +2,12 @@
 use Rattle.stitch_box.specs.Back.{back_answer}
 use Rattle.stitch_box.proofs.read_back.Goals as goal
 
-pub returns-in-Read : goal.returns-in-Read
+pub returns-in-Ok : goal.returns-in-Ok
 unfolding back_answer
-returns-in-Read c = let read' = c.read-told in
-    record { answer = _; read = read'.ensures; told = rw c.in-Read.is }
+returns-in-Ok c = let read' = c.read-told in
+    record { answer = _; read = read'.ensures; told = rw c.in-Ok.is }
 
-pub returns-in-Unread : goal.returns-in-Unread
+pub returns-in-Err : goal.returns-in-Err
 unfolding back_answer
-returns-in-Unread c = let read' = c.read-told in
-    record { answer = _; read = read'.ensures; told = rw c.in-Unread.is }
+returns-in-Err c = let read' = c.read-told in
+    record { answer = _; read = read'.ensures; told = rw c.in-Err.is }

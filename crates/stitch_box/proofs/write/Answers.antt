@@ -6,9 +6,9 @@ use Rattle.stitch_box.proofs.write.Goals as goal
 
 pub returns-in_default : goal.returns-in_default
 unfolding write_verdict verdict write_answer filled
-returns-in_default c = let v = sym c.extension_of-named.ensures ∙ c.in_default.is in record { answered = rw v; stored = rw v }
+returns-in_default c = let v = sym c.extension_of.ensures ∙ c.in_default.is in record { answered = rw v; stored = rw v }
 
 pub returns : goal.returns
-returns c = let named = c.in-Of in
-    let extension-of = c.extension_of-named in
+returns c = let named = c.in-Some in
+    let extension-of = c.extension_of in
     let v = sym extension-of.ensures ∙ named.is in rw v c.write_stitch_file.ensures

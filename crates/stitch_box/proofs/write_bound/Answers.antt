@@ -5,9 +5,9 @@ use Rattle.stitch_box.proofs.write_bound.Goals as goal
 
 pub returns-in_default : goal.returns-in_default
 unfolding bound_told
-returns-in_default c = let v = sym c.extension_of-named.ensures ∙ c.in_default.is in rw v
+returns-in_default c = let v = sym c.extension_of.ensures ∙ c.in_default.is in rw v
 
 pub returns : goal.returns
 unfolding bound_told
-returns c = let v = sym c.extension_of-named.ensures ∙ c.in-Of.is in
+returns c = let v = sym c.extension_of.ensures ∙ c.in-Some.is in
     rw (v, c.bound_of.ensures, c.at_most-2.ensures, c.at_most.ensures)

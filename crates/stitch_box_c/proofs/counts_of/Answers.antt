@@ -2,10 +2,10 @@
 use Rattle.rules.specs.Files.{read_counts}
 use Rattle.stitch_box_c.proofs.counts_of.Goals as goal
 
-pub returns-in-Read : goal.returns-in-Read
+pub returns-in-Ok : goal.returns-in-Ok
 unfolding read_counts
-returns-in-Read c = rw c.in-Read.is
+returns-in-Ok c = rw c.in-Ok.is
 
-pub returns-in-Unread : goal.returns-in-Unread
+pub returns-in-Err : goal.returns-in-Err
 unfolding read_counts
-returns-in-Unread c = rw c.in-Unread.is
+returns-in-Err c = rw c.in-Err.is

@@ -2,10 +2,10 @@
 use Rattle.rules.specs.Jobs.{import_counts}
 use Rattle.stitch_box_c.proofs.job_counts.Goals as goal
 
-pub returns-in-Imported : goal.returns-in-Imported
+pub returns-in-Ok : goal.returns-in-Ok
 unfolding import_counts
-returns-in-Imported c = rw c.in-Imported.is
+returns-in-Ok c = rw c.in-Ok.is
 
-pub returns-in-NotImported : goal.returns-in-NotImported
+pub returns-in-Err : goal.returns-in-Err
 unfolding import_counts
-returns-in-NotImported c = rw c.in-NotImported.is
+returns-in-Err c = rw c.in-Err.is

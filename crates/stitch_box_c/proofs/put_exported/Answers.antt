@@ -1,12 +1,13 @@
 -- By the answer.
 use mathlib.Core.Path.{refl}
-use Rattle.rules.specs.Jobs.{export_number, export_length}
+use Rattle.rules.specs.Jobs.{export_length}
 use Rattle.stitch_box_c.proofs.put_exported.Goals as goal
+use Rattle.rules.specs.Refusals.{answer_number}
 
-pub returns-in-Exported : goal.returns-in-Exported
-unfolding export_number export_length
-returns-in-Exported c = rw c.in-Exported.is (refl, refl)
+pub returns-in-Ok : goal.returns-in-Ok
+unfolding answer_number export_length
+returns-in-Ok c = rw c.in-Ok.is (refl, refl)
 
-pub returns-in-NotExported : goal.returns-in-NotExported
-unfolding export_number export_length
-returns-in-NotExported c = rw c.in-NotExported.is (c.number.ensures, refl)
+pub returns-in-Err : goal.returns-in-Err
+unfolding answer_number export_length
+returns-in-Err c = rw c.in-Err.is (c.number.ensures, refl)

@@ -17,7 +17,6 @@ loop-i-preserved c =
     let across : SFits w32 (get_or a.cmds.now i d).x = search rules in
     let down : SFits w32 (get_or a.cmds.now i d).y = search rules in
     record {
-      within = omega arith;
       across = rw (to_z-of_z across, c.loop-i.invariant.across, one_on i) (next_field (λ (k : Cmd). k.x) d a.xs.now i a.cmds.now inside);
       down = rw (to_z-of_z down, c.loop-i.invariant.down, one_on i) (next_field (λ (k : Cmd). k.y) d a.ys.now i a.cmds.now inside);
       kinds_are = rw (c.loop-i.invariant.kinds_are, one_on i) (next_field (λ (k : Cmd). k.kind) d a.kinds.now i a.cmds.now inside);

@@ -22,12 +22,6 @@ overflow_add-found c =
     rw c.is_in-found.ensures (pick-both (λ n. n ≤ 1) k (omega arith) (omega arith)) in
     omega (arith, once, c.requires)
 
-pub overflow_add-i : goal.overflow_add-i
-overflow_add-i c = omega arith
-
-pub loop-i-smaller : goal.loop-i-smaller
-loop-i-smaller c = omega arith
-
 pub loop-i-preserved : goal.loop-i-preserved
 loop-i-preserved c =
     let once : c.is_in-found.result ≤ 1 = let a = c.args in

@@ -1,6 +1,6 @@
 -- What is counted and what is still to be counted come to the whole.
 use mathlib.Core.Path.{◌≡◌}
-use Prim.Native.Nat.{◌+◌, ◌-◌, ◌≤◌}
+use Prim.Native.Nat.{◌+◌, ◌≤◌}
 use lib.ListN.{take, drop}
 use Rattle.rules.specs.Vocabulary.{count}
 use Rattle.stream_cmd.specs.Cmds.{kind_in}
@@ -11,6 +11,3 @@ invariant-loop-i l =
     (l.i ≤ l.n)
     × ((l.found ≤ l.i)
     × (count (kind_in l.lo l.hi) (take l.n l.kinds) ≡ l.found + count (kind_in l.lo l.hi) (drop l.i (take l.n l.kinds))))
-
-abbrev pub decreases-loop-i : goal.decreases-loop-i
-decreases-loop-i l = l.n - l.i

@@ -6,6 +6,7 @@ use Rattle.thumbnail_tables.specs.Cells.{From}
 use Rattle.thumbnail_tables.proofs.Places.{index-asks, at-index, framed_at, Seen, seen}
 use Rattle.thumbnail_tables.proofs.Turns.{drawing-start, stitched, passed, change-room, changed, last-room, drawn-all}
 use Rattle.thumbnail_tables.proofs.draw_looked.Goals as goal
+use Rattle.thumbnail_tables.proofs.draw_looked.Goals.{then-kind-eq3, else-kind-eq3}
 
 pub loop-i-init : goal.loop-i-init
 loop-i-init c =
@@ -211,20 +212,11 @@ set_bit-requires-then-kind-eq0 c =
     (seen a.w a.h c.requires.all_inside.0 b.0.1 b.1.1 x y, seen a.w a.h c.requires.all_inside.1 b.0.1 b.1.1 x y) in
     (c.loop-i.invariant.block_long, cells.1.cells)
 
-pub overflow_add-i : goal.overflow_add-i
-overflow_add-i c = omega arith
-
-pub loop-i-smaller-then-kind-eq0 : goal.loop-i-smaller-then-kind-eq0
-loop-i-smaller-then-kind-eq0 c = omega arith
-
 pub loop-i-preserved-then-kind-eq0 : goal.loop-i-preserved-then-kind-eq0
 loop-i-preserved-then-kind-eq0 c =
     let across : to_z w32 (of_z w32 (get_or c.args.xs.now c.loop-i.i (pos 0))) ≡ get_or c.args.xs.now c.loop-i.i (pos 0) = ret w32 _ c.index_of-arg-1.given in
     let down : to_z w32 (of_z w32 (get_or c.args.ys.now c.loop-i.i (pos 0))) ≡ get_or c.args.ys.now c.loop-i.i (pos 0) = ret w32 _ c.index_of-arg-then-kind-eq0-1.given in
     stitched c.loop-i.invariant c.loop-i-test.true c.if-kind-eq0.true across down c.index_of-x.ensures c.index_of-y.ensures c.set_bit.ensures c.set_bit-then-kind-eq0.ensures
-
-pub overflow_add-i-in-loop-i : goal.overflow_add-i-in-loop-i
-overflow_add-i-in-loop-i c = omega arith
 
 pub slice_bounds-put_rows-end : goal.slice_bounds-put_rows-end
 slice_bounds-put_rows-end c = sym c.loop-i.invariant.block_long
@@ -232,19 +224,14 @@ slice_bounds-put_rows-end c = sym c.loop-i.invariant.block_long
 pub put_rows-to-requires : goal.put_rows-to-requires
 put_rows-to-requires c = record { icon_len = c.loop-i.invariant.block_long; at_in_bounds = change-room c.loop-i.invariant c.loop-i-test.true c.if-kind-eq3.true }
 
-pub loop-i-smaller-then-kind-eq3 : goal.loop-i-smaller-then-kind-eq3
-loop-i-smaller-then-kind-eq3 c = omega arith
-
-pub loop-i-preserved-then-kind-eq3 : goal.loop-i-preserved-then-kind-eq3
-loop-i-preserved-then-kind-eq3 c =
-    changed c.loop-i.invariant c.loop-i-test.true c.if-kind-eq3.true c.put_rows-to.ensures c.pec_icon_blank-block-then-kind-eq3.ensures
-
-pub loop-i-smaller : goal.loop-i-smaller
-loop-i-smaller c = omega arith
-
 pub loop-i-preserved : goal.loop-i-preserved
 loop-i-preserved c =
-    passed c.loop-i.invariant c.loop-i-test.true (ne_eqb _ 0 c.if-kind-eq0.false) (ne_eqb _ 3 c.if-kind-eq3.false)
+    elim c.if-kind-eq3.branch [
+      | then-kind-eq3 w ↦ rw (w.out-is, w.block-is, w.to-is)
+          (changed c.loop-i.invariant c.loop-i-test.true w.if-kind-eq3.true w.put_rows-to.ensures w.pec_icon_blank-block-then-kind-eq3.ensures)
+      | else-kind-eq3 w ↦ rw (w.out-is, w.block-is, w.to-is)
+          (passed c.loop-i.invariant c.loop-i-test.true (ne_eqb _ 0 c.if-kind-eq0.false) (ne_eqb _ 3 w.if-kind-eq3.false))
+    ]
 
 pub slice_bounds-put_rows-end-2 : goal.slice_bounds-put_rows-end-2
 slice_bounds-put_rows-end-2 c = sym c.loop-i.invariant.block_long

@@ -25,12 +25,6 @@ offset_bounds-table-k c = omega (arith, c.loop-k.invariant.1.same)
 pub bounds-table-k : goal.bounds-table-k
 bounds-table-k c = omega (arith, c.loop-k.invariant.1.same)
 
-pub overflow_add-k : goal.overflow_add-k
-overflow_add-k c = omega arith
-
-pub loop-k-smaller : goal.loop-k-smaller
-loop-k-smaller c = omega arith
-
 pub loop-k-preserved : goal.loop-k-preserved
 loop-k-preserved c =
     (omega arith, writing-one c.loop-k.invariant.1 (one_more c.args.v c.args.j c.loop-k.k (omega arith)))

@@ -18,15 +18,15 @@ returns-then-not-is_above_zero c =
 pub returns-then-floor-p : goal.returns-then-floor-p
 returns-then-floor-p c = let place' = c.place in let if3 = c.if-not-is_above_zero in
     let is-above-zero = c.is_above_zero in
-    let lesser = c.lesser-far in
+    let least = c.min-far in
     let a = c.args in
     let e = c.if-floor-p.true in
-    let there = ret w32 place'.result place'.type_inv ∙ place'.ensures ∙ ap (λ (u : ℤ). u +ℤ pos (lesser.result - 1)) (to_z-of_z c.ranges.z) in
+    let there = ret w32 place'.result place'.type_inv ∙ place'.ensures ∙ ap (λ (u : ℤ). u +ℤ pos (least.result - 1)) (to_z-of_z c.ranges.z) in
     let last = sym (pixel-read a.scale a.t c.floor.ensures c.scaled-2.ensures there) ∙ e in (
       omega arith,
       (
-        lesser.ensures.1,
-        together a.scale a.t a.z c.requires.p_value lesser.result
+        omega (arith, least.ensures),
+        together a.scale a.t a.z c.requires.p_value least.result
             (sym is-above-zero.ensures ∙ if3.false) (omega arith) last,
       ),
     )

@@ -1,5 +1,5 @@
 -- From each place passed the next colour change is the same.
-use mathlib.Core.Path.{refl, sym, ap, ◌∙◌}
+use mathlib.Core.Path.{◌≡◌, refl, sym, ap, ◌∙◌}
 use native.Mathlib.Omega.{arith}
 use Rattle.rules.specs.Lists.{is_change}
 use Rattle.laws.specs.Listing.{length-commands}
@@ -19,12 +19,6 @@ returns-then-is_change c = let loop = c.loop-i in
     let t = sym (c.is_change.ensures ∙ ap is_change c.op_of.ensures) ∙ c.if-is_change.true in
     sym (change-here a.xs.now a.ys.now a.kinds.now loop.i (omega arith) t) ∙ loop.invariant.1.1
 
-pub overflow_add-i : goal.overflow_add-i
-overflow_add-i c = omega arith
-
-pub loop-i-smaller : goal.loop-i-smaller
-loop-i-smaller c = omega arith
-
 pub loop-i-preserved : goal.loop-i-preserved
 loop-i-preserved c = let loop = c.loop-i in
     let a = c.args in
@@ -33,4 +27,5 @@ loop-i-preserved c = let loop = c.loop-i in
 
 pub returns : goal.returns
 returns c = let a = c.args in
-    sym (change-none a.xs.now a.ys.now a.kinds.now c.loop-i.i (omega arith)) ∙ c.loop-i.invariant.1.1
+    let e : c.list_len-n.result ≡ c.loop-i.i = omega arith in
+    e ∙ sym (change-none a.xs.now a.ys.now a.kinds.now c.loop-i.i (omega arith)) ∙ c.loop-i.invariant.1.1

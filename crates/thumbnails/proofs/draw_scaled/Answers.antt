@@ -39,12 +39,6 @@ bounds-ys-i c = let a = c.args in
 pub mark-next-requires : goal.mark-next-requires
 mark-next-requires c = (c.loop-i.invariant.1.0, c.loop-i.invariant.1.1.1)
 
-pub overflow_add-i : goal.overflow_add-i
-overflow_add-i c = omega arith
-
-pub loop-i-smaller : goal.loop-i-smaller
-loop-i-smaller c = omega arith
-
 pub loop-i-preserved : goal.loop-i-preserved
 loop-i-preserved c = let mark-arg = c.mark-arg-1 in let op-of = c.op_of in
     let loop-test = c.loop-i-test in

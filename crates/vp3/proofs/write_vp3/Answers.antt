@@ -1,16 +1,20 @@
 -- The checks decide, and then the room.
+use Rattle.std.specs.Prelude.{◌≡◌, Err}
+use borrow.Author.Rules.{rules}
 use Rattle.rules.specs.Files.{file_of, distance_of}
 use Rattle.emit.proofs.Writes.{fine, wrote, not-wrote}
 use Rattle.vp3.proofs.write_vp3.Goals as goal
 
 pub write_accepted-requires : goal.write_accepted-requires
-write_accepted-requires c = let g = fine c.check_list-checked.ensures c.in-Accepted.is in
+write_accepted-requires c = let g = fine c.check_list.ensures c.in_ok-check_list.was in
     (record { same_xs = g.same_xs; same_ys = g.same_ys; short = g.long; placed = g.places; few = g.few_changes }, g.some)
 
-pub returns-in-Accepted : goal.returns-in-Accepted
+pub returns : goal.returns
 unfolding file_of distance_of
-returns-in-Accepted c = search wrote
+returns c = wrote c.check_list.ensures c.in_ok-check_list.was c.write_accepted.ensures
 
-pub returns-in-Refused : goal.returns-in-Refused
+pub returns-in_err-check_list : goal.returns-in_err-check_list
 unfolding file_of distance_of
-returns-in-Refused c = search not-wrote
+returns-in_err-check_list c =
+    let e : c.from_residual.result ≡ Err c.in_err-check_list.field-0.0 = search rules in
+    rw e (not-wrote c.check_list.ensures c.in_err-check_list.was)

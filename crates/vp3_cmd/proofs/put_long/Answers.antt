@@ -16,6 +16,6 @@ put2-requires c = omega (arith, c)
 pub returns : goal.returns
 returns c =
     put-put (put-put (put-put c.put2-x.ensures
-    (rw (c.low_bits.ensures, to_z-of_z c.ranges.dx) at c.put_be16-y.ensures))
-    (rw (c.low_bits-2.ensures, to_z-of_z c.ranges.dy) at c.put_be16-end.ensures))
+    (rw (c.low16.ensures, to_z-of_z c.ranges.dx) at c.put_be16-y.ensures))
+    (rw (c.low16-2.ensures, to_z-of_z c.ranges.dy) at c.put_be16-end.ensures))
     c.put2.ensures

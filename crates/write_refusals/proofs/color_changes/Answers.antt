@@ -41,12 +41,6 @@ overflow_add-found c =
     (ap changes (commands-at _ _ _ i l) ∙ sym c.is_change.ensures)) in
     omega (arith, turn)
 
-pub overflow_add-i : goal.overflow_add-i
-overflow_add-i c = omega arith
-
-pub loop-i-smaller : goal.loop-i-smaller
-loop-i-smaller c = omega arith
-
 pub loop-i-preserved : goal.loop-i-preserved
 unfolding changes
 loop-i-preserved c =

@@ -1,6 +1,6 @@
 -- The count for the whole list is what was found and the count for the commands that are left.
 use mathlib.Core.Path.{◌≡◌}
-use Prim.Native.Nat.{◌+◌, ◌-◌, ◌≤◌}
+use Prim.Native.Nat.{◌+◌, ◌≤◌}
 use lib.ListN.{drop}
 use Rattle.rules.specs.Vocabulary.{count}
 use Rattle.rules.specs.Lists.{commands}
@@ -13,6 +13,3 @@ invariant-loop-i l =
     Held l.xs l.ys l.kinds l.n
     × ((count changes (commands l.xs l.ys l.kinds) ≤ 65535)
     × (count changes (commands l.xs l.ys l.kinds) ≡ l.found + count changes (drop l.i (commands l.xs l.ys l.kinds))))
-
-abbrev pub decreases-loop-i : goal.decreases-loop-i
-decreases-loop-i l = l.n - l.i

@@ -2,7 +2,7 @@
 use mathlib.Core.Path.{◌≡◌, refl, sym, ap, ◌∙◌}
 use mathlib.Core.Bool.{Bool, true, false, ◌&&◌, ◌||◌, not}
 use mathlib.Core.List.{List}
-use Prim.Native.Nat.{ℕ, ◌+◌, ◌≤◌, ◌<◌}
+use Prim.Native.Nat.{ℕ, ◌+◌, ◌-◌, ◌≤◌, ◌<◌}
 use native.Mathlib.Omega.{arith}
 use lib.Dec.{eqb}
 use lib.ListN.{length, get_or, drop}
@@ -28,27 +28,17 @@ returns-then-kinds-eq0 c = sym (ap ends_once (list-end c.args.kinds.now 0 (omega
 pub loop-i-init : goal.loop-i-init
 loop-i-init c = (omega arith, refl)
 
-pub overflow_add-i : goal.overflow_add-i
-overflow_add-i c = omega arith
-
 pub bounds-kinds-i : goal.bounds-kinds-i
 bounds-kinds-i c = omega arith
-
-pub overflow_add-i-in-loop-i : goal.overflow_add-i-in-loop-i
-overflow_add-i-in-loop-i c = omega arith
-
-pub loop-i-smaller : goal.loop-i-smaller
-loop-i-smaller c = omega arith
 
 pub loop-i-preserved : goal.loop-i-preserved
 loop-i-preserved c =
     let loop = c.loop-i in
-    (c.loop-i-test.true, loop.invariant.1 ∙ more c.args.kinds.now loop.i loop.early c.loop-i-test.true)
-
-pub bounds-kinds-i-2 : goal.bounds-kinds-i-2
-bounds-kinds-i-2 c = omega arith
+    (omega arith, loop.invariant.1 ∙ more c.args.kinds.now loop.i loop.early (omega arith))
 
 pub returns : goal.returns
 returns c =
+    let ks = c.args.kinds.now in
     let loop = c.loop-i in
-    sym (loop.invariant.1 ∙ rw (last c.args.kinds.now loop.i loop.invariant.0 c.loop-i-test.false))
+    let e : loop.i ≡ length ks - 1 = omega arith in
+    sym (loop.invariant.1 ∙ rw (last ks loop.i loop.invariant.0 (omega arith), e))

@@ -25,12 +25,6 @@ bounds-ys-i c = omega arith
 pub bounds-kinds-i : goal.bounds-kinds-i
 bounds-kinds-i c = omega arith
 
-pub overflow_add-i : goal.overflow_add-i
-overflow_add-i c = omega arith
-
-pub loop-i-smaller : goal.loop-i-smaller
-loop-i-smaller c = omega arith
-
 pub loop-i-preserved : goal.loop-i-preserved
 unfolding any_from moves
 loop-i-preserved c =

@@ -22,12 +22,6 @@ offset_bounds-ys-i c = omega arith
 pub bounds-ys-i : goal.bounds-ys-i
 bounds-ys-i c = omega arith
 
-pub overflow_add-i : goal.overflow_add-i
-overflow_add-i c = omega arith
-
-pub loop-i-smaller : goal.loop-i-smaller
-loop-i-smaller c = omega arith
-
 pub loop-i-preserved : goal.loop-i-preserved
 unfolding any outside
 loop-i-preserved c =

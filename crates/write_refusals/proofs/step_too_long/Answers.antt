@@ -1,6 +1,6 @@
 -- What is gathered tells the commands before i, and what is left the others, from the place before. All places are in range, so no
 -- difference is past 32,000.
-use mathlib.Core.Path.{refl, ◌∙◌}
+use mathlib.Core.Path.{refl, ap, ◌∙◌}
 use native.Mathlib.Omega.{arith}
 use lib.IntN.{ℤ, ◌-ℤ◌}
 use mir.Syntax.{w32}
@@ -14,6 +14,7 @@ use Rattle.rules.specs.declared.Cmd.{Cmd}
 use Rattle.laws.specs.Ints.{ints, ret, abs_is}
 use Rattle.laws.specs.Places.{Small, Within}
 use Rattle.write_refusals.proofs.Walk.{held, read_at, here, one_more, one_end}
+use borrow.Author.Rules.{rules}
 use Rattle.write_refusals.proofs.step_too_long.Goals as goal
 
 -- the command at i, as the code reads it
@@ -51,12 +52,6 @@ overflow_sub-ny c =
     here c.loop-i.invariant.0 c.requires c.loop-i-test.true c.nx-1.given c.ny-1.given in
     apart (at_turn c.args.xs.now c.args.ys.now c.args.kinds.now c.loop-i.i).y (to_z w32 c.loop-i.y-bits) near.down c.loop-i.invariant.1.0.1
 
-pub overflow_add-i : goal.overflow_add-i
-overflow_add-i c = omega arith
-
-pub loop-i-smaller : goal.loop-i-smaller
-loop-i-smaller c = omega arith
-
 pub loop-i-preserved : goal.loop-i-preserved
 unfolding any_from
 loop-i-preserved c =
@@ -74,7 +69,8 @@ loop-i-preserved c =
 pub returns : goal.returns
 unfolding any_from step_too_long steps_past step_in
 returns c =
-    let low = c.least_step-lo in
-    let high = c.greatest_step-hi in
-    rw (ret w32 low.result low.type_inv ∙ low.ensures, ret w32 high.result high.type_inv ∙ high.ensures) at
+    let both = c.step_limits-lo in
+    let low : SFits w32 both.result.0 = search rules in
+    let high : SFits w32 both.result.1 = search rules in
+    rw (to_z-of_z low ∙ ap (λ (p : ℤ × ℤ). p.0) both.ensures, to_z-of_z high ∙ ap (λ (p : ℤ × ℤ). p.1) both.ensures) at
     (one_end c.loop-i.invariant.0 c.loop-i.invariant.1.1 c.loop-i-test.false refl)

@@ -1,7 +1,6 @@
 -- What is gathered tells the commands before i, and what is left the others, from the place before. All places are in range, so no
 -- difference is past 32,000.
 use mathlib.Core.Bool.{Bool, ◌&&◌, not}
-use Prim.Native.Nat.{◌-◌}
 use lib.IntN.{ℤ, pos, ◌-ℤ◌}
 use Rattle.rules.specs.Vocabulary.{between}
 use Rattle.rules.specs.Lists.{commands, any_from}
@@ -20,6 +19,3 @@ invariant-loop-i l =
     × ((Small l.x × Small l.y)
     × (let p = past l.lo l.hi in
     Told (any_from p (pos 0) (pos 0) (commands l.xs l.ys l.kinds)) (any_from p l.x l.y) (commands l.xs l.ys l.kinds) l.bad l.i))
-
-abbrev pub decreases-loop-i : goal.decreases-loop-i
-decreases-loop-i l = l.n - l.i

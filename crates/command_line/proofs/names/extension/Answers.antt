@@ -1,18 +1,13 @@
 -- `extension` is what follows the last dot. Assumes nothing.
 use mathlib.Core.Path.{sym, ◌∙◌}
-use native.Mathlib.Omega.{arith}
-use lib.Dec.{eqb}
-use Rattle.rules.specs.Vocabulary.{last_where}
 use Rattle.command_line.specs.Names.{after_last_dot}
 use Rattle.command_line.proofs.Lasts.{behind-is, behind-none}
 use Rattle.command_line.proofs.names.extension.Goals as goal
 
-pub returns-then-n-eq0 : goal.returns-then-n-eq0
+pub returns-in-Some : goal.returns-in-Some
 unfolding after_last_dot
-returns-then-n-eq0 c = let s = c.args.name.now in
-    behind-none (last_where (eqb 0x2E) s) s (sym c.if-n-eq0.true ∙ c.up_to_last-n.ensures.1)
+returns-in-Some c = behind-is c.args.name.now (sym c.last.ensures.is ∙ c.in-Some.is)
 
-pub returns : goal.returns
+pub returns-in-None : goal.returns-in-None
 unfolding after_last_dot
-returns c = let s = c.args.name.now in
-    behind-is (last_where (eqb 0x2E) s) s _ c.up_to_last-n.ensures.1 (omega (arith, c.if-n-eq0.false))
+returns-in-None c = behind-none c.args.name.now (sym c.last.ensures.is ∙ c.in-None.is)

@@ -5,16 +5,16 @@ use Rattle.command_line.proofs.numbers.digits_up_to.Goals as goal
 pub returns-then-text-eq0 : goal.returns-then-text-eq0
 returns-then-text-eq0 c = answer-none _ _ c.if-text-eq0.true
 
-pub loop-i-init : goal.loop-i-init
-loop-i-init c = made-start _ _ c.if-text-eq0.false
+pub loop-b-init : goal.loop-b-init
+loop-b-init c = made-start _ _ c.if-text-eq0.false
 
-pub returns-in_default : goal.returns-in_default
-returns-in_default c =
-    made-wrong _ _ c.loop-i.invariant c.loop-i-test.true c.with_digit-more.ensures c.in_default.is
+pub returns-in_err-n : goal.returns-in_err-n
+returns-in_err-n c =
+    rw c.from_residual.ensures (made-wrong _ _ c.loop-b.invariant c.loop-b-test.true c.with_digit.ensures c.in_err-n.was)
 
-pub loop-i-preserved : goal.loop-i-preserved
-loop-i-preserved c =
-    made_more _ _ c.loop-i.invariant c.loop-i-test.true c.with_digit-more.ensures c.in-Make.is
+pub loop-b-preserved : goal.loop-b-preserved
+loop-b-preserved c =
+    made_more _ _ c.loop-b.invariant c.loop-b-test.true c.with_digit.ensures c.in_ok-n.was
 
 pub returns : goal.returns
-returns c = made_all _ _ c.loop-i.invariant c.loop-i-test.false
+returns c = made_all _ _ c.loop-b.invariant c.loop-b-test.false

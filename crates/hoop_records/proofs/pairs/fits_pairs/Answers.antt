@@ -25,11 +25,11 @@ returns-in_default c =
 
 pub loop-w-smaller : goal.loop-w-smaller
 loop-w-smaller c =
-    omega (arith, (rw c.in-On.is at c.look_pair.ensures).onward.1, c.last_turn-end.ensures c.loop-w.w.at c.loop-w-test.true)
+    omega (arith, (rw c.in-Some.is at c.look_pair.ensures).onward.1, c.last_turn-end.ensures c.loop-w.w.at c.loop-w-test.true)
 
 pub loop-w-preserved : goal.loop-w-preserved
 loop-w-preserved c =
-    let k = (rw c.in-On.is at c.look_pair.ensures) in going_on c.loop-w.invariant k k.onward.0
+    let k = (rw c.in-Some.is at c.look_pair.ensures) in going_on c.loop-w.invariant k k.onward.0
 
 pub fits_rest-requires : goal.fits_rest-requires
 fits_rest-requires c = c.loop-w.invariant.looking

@@ -1,4 +1,5 @@
 -- By the kind of the control.
+use Rattle.std.specs.Prelude.{Some}
 use Prim.Native.Nat.{◌+◌}
 use mathlib.Core.Bool.{false}
 use native.Mathlib.Omega.{arith}
@@ -11,7 +12,6 @@ use Rattle.read_passes.proofs.Found.{Control, is-stitch, is-end, is-change, is-j
 use Rattle.read_passes.proofs.Turns.{read, reads}
 use Rattle.hoop_records.specs.Looks.{stepped, Leads}
 use Rattle.hoop_records.specs.Rows.{Looks}
-use Rattle.hoop_records.specs.declared.looks.Seen.TheVariants.{On}
 use Rattle.hoop_records.proofs.Turns.{can-step, looks-sewn, looks-jump, looks-change, looks-end}
 use Rattle.hoop_records.proofs.pairs.look_control.Goals as goal
 
@@ -80,7 +80,7 @@ hop-requires c =
     } in
     let hops : let a = c.args in
     let x = read c.step_x-dx.result in let y = read c.step_y-dy.result in
-    Leads a.w x y 4 × Looks (pair_row a.jef) a.h a.bytes.now a.w (On (stepped false a.w x y 4)) = let a = c.args in
+    Leads a.w x y 4 × Looks (pair_row a.jef) a.h a.bytes.now a.w (Some (stepped false a.w x y 4)) = let a = c.args in
     let g = control in
     let l = c.requires.looking in
     let k = get_or a.table.now (get_or a.bytes.now (a.w.at + 1) 0) 0 in
@@ -104,7 +104,7 @@ returns c =
     } in
     let hops : let a = c.args in
     let x = read c.step_x-dx.result in let y = read c.step_y-dy.result in
-    Leads a.w x y 4 × Looks (pair_row a.jef) a.h a.bytes.now a.w (On (stepped false a.w x y 4)) = let a = c.args in
+    Leads a.w x y 4 × Looks (pair_row a.jef) a.h a.bytes.now a.w (Some (stepped false a.w x y 4)) = let a = c.args in
     let g = control in
     let l = c.requires.looking in
     let k = get_or a.table.now (get_or a.bytes.now (a.w.at + 1) 0) 0 in

@@ -14,11 +14,11 @@ pub returns-in_default : goal.returns-in_default
 returns-in_default c = going-out c.loop-w.invariant (rw c.in_default.is at c.look_record.ensures)
 
 pub loop-w-smaller : goal.loop-w-smaller
-loop-w-smaller c = omega (arith, (rw c.in-On.is at c.look_record.ensures).onward.1, c.loop-w-test.true)
+loop-w-smaller c = omega (arith, (rw c.in-Some.is at c.look_record.ensures).onward.1, c.loop-w-test.true)
 
 pub loop-w-preserved : goal.loop-w-preserved
 loop-w-preserved c =
-    let k = (rw c.in-On.is at c.look_record.ensures) in going_on c.loop-w.invariant k k.onward.0
+    let k = (rw c.in-Some.is at c.look_record.ensures) in going_on c.loop-w.invariant k k.onward.0
 
 pub returns : goal.returns
 returns c = at-end _ _ _ c.loop-w.invariant c.loop-w-test.false

@@ -1,4 +1,5 @@
 -- By the third byte.
+use Rattle.std.specs.Prelude.{Some}
 use Prim.Native.Nat.{◌+◌}
 use mathlib.Core.Bool.{false}
 use native.Mathlib.Omega.{arith}
@@ -10,7 +11,6 @@ use Rattle.read_passes.proofs.Found.{has, lacks, Triple, triple-stitch, triple-e
 use Rattle.read_passes.proofs.Turns.{read, reads}
 use Rattle.hoop_records.specs.Looks.{stepped, Leads}
 use Rattle.hoop_records.specs.Rows.{Looks}
-use Rattle.hoop_records.specs.declared.looks.Seen.TheVariants.{On}
 use Rattle.hoop_records.proofs.Turns.{can-step, looks-sewn, looks-jump, looks-change, looks-end}
 use Rattle.hoop_records.proofs.triples.look_triple.Goals as goal
 
@@ -43,7 +43,7 @@ hop-requires c =
     record { room = omega (arith, c.requires.at_in_bounds); dx = reads u.type_inv u.ensures; dy = reads c.dst_dy-dy.type_inv c.dst_dy-dy.ensures } in
     let hops : let a = c.args in
     let x = read c.dst_dx-dx.result in let y = read c.dst_dy-dy.result in
-    Leads a.w x y 3 × Looks Dst a.h a.bytes.now a.w (On (stepped false a.w x y 3)) = let t = triple in
+    Leads a.w x y 3 × Looks Dst a.h a.bytes.now a.w (Some (stepped false a.w x y 3)) = let t = triple in
     let l = c.requires.looking in
     let n = lacks 0xF3 _ c.if-c-2.false in
     by-test (under 0xC3 (get_or c.args.bytes.now (c.args.w.at + 2) 0))
@@ -58,7 +58,7 @@ returns c =
     record { room = omega (arith, c.requires.at_in_bounds); dx = reads u.type_inv u.ensures; dy = reads c.dst_dy-dy.type_inv c.dst_dy-dy.ensures } in
     let hops : let a = c.args in
     let x = read c.dst_dx-dx.result in let y = read c.dst_dy-dy.result in
-    Leads a.w x y 3 × Looks Dst a.h a.bytes.now a.w (On (stepped false a.w x y 3)) = let t = triple in
+    Leads a.w x y 3 × Looks Dst a.h a.bytes.now a.w (Some (stepped false a.w x y 3)) = let t = triple in
     let l = c.requires.looking in
     let n = lacks 0xF3 _ c.if-c-2.false in
     by-test (under 0xC3 (get_or c.args.bytes.now (c.args.w.at + 2) 0))

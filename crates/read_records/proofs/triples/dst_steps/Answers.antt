@@ -14,10 +14,7 @@ loop-n-preserved c = let u = c.dst_step in
     let e = c.axis_bits-bits.ensures in
     let l = c.loop-n in (
       simp length-set l.invariant.0,
-      (
-        omega arith,
-        entries-more c.args.y l.steps l.n l.invariant.0 (omega arith)
-            (ret w32 u.result u.type_inv ∙ u.ensures ∙ rw e) (ret w32 v.result v.type_inv ∙ v.ensures ∙ rw e)
-            (ret w32 w.result w.type_inv ∙ w.ensures ∙ rw e) l.invariant.1.1,
-      ),
+      entries-more c.args.y l.steps l.n l.invariant.0 (omega arith)
+          (ret w32 u.result u.type_inv ∙ u.ensures ∙ rw e) (ret w32 v.result v.type_inv ∙ v.ensures ∙ rw e)
+          (ret w32 w.result w.type_inv ∙ w.ensures ∙ rw e) l.invariant.1,
     )

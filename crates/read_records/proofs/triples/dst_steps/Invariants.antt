@@ -6,7 +6,4 @@ use Rattle.read_records.proofs.DstTables.{Entries}
 use Rattle.read_records.proofs.triples.dst_steps.Given as goal
 
 abbrev pub invariant-loop-n : goal.invariant-loop-n
-invariant-loop-n l = (length l.steps ≡ 48) × ((l.n ≤ 16) × ((k : ℕ) → k < l.n → Entries l.y l.steps k))
-
-abbrev pub decreases-loop-n : goal.decreases-loop-n
-decreases-loop-n l = 16 - l.n
+invariant-loop-n l = (length l.steps ≡ 48) × ((k : ℕ) → k < l.n → Entries l.y l.steps k)

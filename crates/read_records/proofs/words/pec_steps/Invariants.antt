@@ -6,7 +6,4 @@ use Rattle.read_records.proofs.PecTables.{Entries}
 use Rattle.read_records.proofs.words.pec_steps.Given as goal
 
 abbrev pub invariant-loop-n : goal.invariant-loop-n
-invariant-loop-n l = (length l.steps ≡ 512) × ((l.n ≤ 256) × ((k : ℕ) → k < l.n → Entries l.steps k))
-
-abbrev pub decreases-loop-n : goal.decreases-loop-n
-decreases-loop-n l = 256 - l.n
+invariant-loop-n l = (length l.steps ≡ 512) × ((k : ℕ) → k < l.n → Entries l.steps k)

@@ -1,9 +1,6 @@
--- `points` ends, within the buffer. Assumes nothing.
-use Rattle.std.proofs.Common.{◌≤◌, ◌-◌, length}
+-- `points` stays within the buffer. Assumes nothing.
+use Rattle.std.proofs.Common.{◌≤◌}
 use Rattle.runs.proofs.show.points.Given as goal
 
-abbrev pub invariant-loop-i : goal.invariant-loop-i
-invariant-loop-i l = (l.i ≤ length l.cells) × (l.to ≤ 65536)
-
-abbrev pub decreases-loop-i : goal.decreases-loop-i
-decreases-loop-i l = length l.cells - l.i
+abbrev pub invariant-loop-p : goal.invariant-loop-p
+invariant-loop-p l = l.to ≤ 65536

@@ -20,12 +20,6 @@ offset_bounds-parts-t c = omega arith
 pub bounds-parts-t : goal.bounds-parts-t
 bounds-parts-t c = omega arith
 
-pub overflow_add-t : goal.overflow_add-t
-overflow_add-t c = omega arith
-
-pub loop-t-smaller : goal.loop-t-smaller
-loop-t-smaller c = omega arith
-
 pub loop-t-preserved : goal.loop-t-preserved
 loop-t-preserved c = let loop = c.loop-t in
     let s = loop.parts in

@@ -160,21 +160,6 @@ overflow_add-from c =
     (omega (arith, laying-end g t), (laying-within g t, (short, omega (arith, laying-little g t, short)))) in
     omega (arith, ends)
 
-pub overflow_add-k : goal.overflow_add-k
-overflow_add-k c =
-    let few : (let a = c.args in (a.n ≤ 255) × ((a.n ≤ length a.ends.now) × (a.n ≤ length a.lens.now))) = let a = c.args in
-    let listed = c.requires.listed in
-    let room = listed-room listed in
-    (omega (arith, listed.blocks, length-blocks (commands a.xs.now a.ys.now a.kinds.now), c.requires.known.0.few), room) in
-    let here : (
-    let a = c.args in
-    let k = c.loop-k.k in
-    (k ≤ 254) × ((k < length a.ends.now) × (k < length a.lens.now))) = let f = few in (omega (arith, f.0), (omega (arith, f.1.0), omega (arith, f.1.1))) in
-    omega (arith, here.0)
-
-pub loop-k-smaller : goal.loop-k-smaller
-loop-k-smaller c = omega (arith, c.loop-k-test.true)
-
 pub loop-k-preserved : goal.loop-k-preserved
 loop-k-preserved c =
     let block : (

@@ -13,7 +13,7 @@ use Rattle.rules.specs.Vp3.{stitch_of, vp3_cmd, last_stitch}
 use Rattle.laws.specs.Listing.{cmd_at, Listed, listed, length-commands}
 use Rattle.laws.specs.Places.{Small}
 use Rattle.vp3.proofs.Numbers.{read, back-small}
-use Rattle.vp3.proofs.Stitches.{Here, Moves, Turn, read_at, here, near-across, near_down, moves, stitch-start, stitch-room, stitch-on, stitch-done}
+use Rattle.vp3.proofs.Stitches.{Here, Moves, Turn, read_at, here, near-across, near_down, step-fits, moves, stitch-start, stitch-room, stitch-on, stitch-done}
 use Rattle.vp3.proofs.Pairs.{place-turn}
 use Rattle.vp3.proofs.Turns.{cmd-turn, two-room, two-on}
 use Rattle.vp3.proofs.blocks.put_stitches.Goals as goal
@@ -162,13 +162,13 @@ pub step-requires : goal.step-requires
 step-requires c =
     let place : (let a = c.args in Here a.xs.now a.ys.now c.loop-i.i) = let a = c.args in
     here a.xs.now a.ys.now a.kinds.now c.loop-i.i c.requires.kinds_value (omega (arith, c.loop-i.invariant.listed)) in
-    (c.loop-i.invariant.across, near-across place)
+    step-fits (to_z w32 c.loop-i.px-bits) (read_at c.args.xs.now c.loop-i.i) c.loop-i.invariant.across (near-across place)
 
 pub step-requires-in-loop-i : goal.step-requires-in-loop-i
 step-requires-in-loop-i c =
     let place : (let a = c.args in Here a.xs.now a.ys.now c.loop-i.i) = let a = c.args in
     here a.xs.now a.ys.now a.kinds.now c.loop-i.i c.requires.kinds_value (omega (arith, c.loop-i.invariant.listed)) in
-    (c.loop-i.invariant.down, near_down place)
+    step-fits (to_z w32 c.loop-i.py-bits) (read_at c.args.ys.now c.loop-i.i) c.loop-i.invariant.down (near_down place)
 
 pub put_cmd-to-requires : goal.put_cmd-to-requires
 put_cmd-to-requires c =
@@ -183,7 +183,7 @@ put_cmd-to-requires c =
     (vp3_cmd op (read c.step.result) (read c.step-in-loop-i.result))
     (last_stitch op (to_z w32 loop.px-bits) (read_at a.xs.now loop.i)) (last_stitch op (to_z w32 loop.py-bits) (read_at a.ys.now loop.i))) = let inv = c.loop-i.invariant in
     let h = place in
-    let d = moves h c.step.ensures c.step-in-loop-i.ensures in
+    let d = moves h inv.across inv.down c.step.ensures c.step-in-loop-i.ensures in
     (d, cmd-turn c.args.kinds.now h d c.op_of-op.ensures inv.across inv.down) in
     let t = other in
     (t.0.near_x, (t.0.near_y, stitch-room c.loop-i.invariant (omega arith) t.1))
@@ -204,7 +204,7 @@ loop-i-preserved c =
     (vp3_cmd op (read c.step.result) (read c.step-in-loop-i.result))
     (last_stitch op (to_z w32 loop.px-bits) (read_at a.xs.now loop.i)) (last_stitch op (to_z w32 loop.py-bits) (read_at a.ys.now loop.i))) = let inv = c.loop-i.invariant in
     let h = place in
-    let d = moves h c.step.ensures c.step-in-loop-i.ensures in
+    let d = moves h inv.across inv.down c.step.ensures c.step-in-loop-i.ensures in
     (d, cmd-turn c.args.kinds.now h d c.op_of-op.ensures inv.across inv.down) in
     let t = other.1 in
     rw (last-is c.last_stitch-px.ensures t.across, last-is c.last_stitch-py.ensures t.down)
@@ -229,7 +229,7 @@ pub step-requires-then-i-end : goal.step-requires-then-i-end
 step-requires-then-i-end c =
     let tail-place : (let a = c.args in Here a.xs.now a.ys.now c.loop-i.i) = let a = c.args in
     here a.xs.now a.ys.now a.kinds.now c.loop-i.i c.requires.kinds_value (omega (arith, c.loop-i.invariant.listed)) in
-    (c.loop-i.invariant.across, near-across tail-place)
+    step-fits (to_z w32 c.loop-i.px-bits) (read_at c.args.xs.now c.loop-i.i) c.loop-i.invariant.across (near-across tail-place)
 
 pub offset_bounds-ys-i-then-i-end : goal.offset_bounds-ys-i-then-i-end
 offset_bounds-ys-i-then-i-end c =
@@ -245,7 +245,7 @@ pub step-requires-then-i-end-2 : goal.step-requires-then-i-end-2
 step-requires-then-i-end-2 c =
     let tail-place : (let a = c.args in Here a.xs.now a.ys.now c.loop-i.i) = let a = c.args in
     here a.xs.now a.ys.now a.kinds.now c.loop-i.i c.requires.kinds_value (omega (arith, c.loop-i.invariant.listed)) in
-    (c.loop-i.invariant.down, near_down tail-place)
+    step-fits (to_z w32 c.loop-i.py-bits) (read_at c.args.ys.now c.loop-i.i) c.loop-i.invariant.down (near_down tail-place)
 
 pub put_cmd-requires : goal.put_cmd-requires
 put_cmd-requires c =
@@ -260,7 +260,7 @@ put_cmd-requires c =
     (vp3_cmd op (read c.step-then-i-end.result) (read c.step-then-i-end-2.result))
     (last_stitch op (to_z w32 loop.px-bits) (read_at a.xs.now loop.i)) (last_stitch op (to_z w32 loop.py-bits) (read_at a.ys.now loop.i))) = let inv = c.loop-i.invariant in
     let h = tail-place in
-    let d = moves h c.step-then-i-end.ensures c.step-then-i-end-2.ensures in
+    let d = moves h inv.across inv.down c.step-then-i-end.ensures c.step-then-i-end-2.ensures in
     (d, cmd-turn c.args.kinds.now h d c.op_of.ensures inv.across inv.down) in
     let k = tail in
     (k.0.near_x, (k.0.near_y, stitch-room c.loop-i.invariant c.if-i-end.true k.1))
@@ -278,7 +278,7 @@ returns-then-i-end c =
     (vp3_cmd op (read c.step-then-i-end.result) (read c.step-then-i-end-2.result))
     (last_stitch op (to_z w32 loop.px-bits) (read_at a.xs.now loop.i)) (last_stitch op (to_z w32 loop.py-bits) (read_at a.ys.now loop.i))) = let inv = c.loop-i.invariant in
     let h = tail-place in
-    let d = moves h c.step-then-i-end.ensures c.step-then-i-end-2.ensures in
+    let d = moves h inv.across inv.down c.step-then-i-end.ensures c.step-then-i-end-2.ensures in
     (d, cmd-turn c.args.kinds.now h d c.op_of.ensures inv.across inv.down) in
     let fits = c.ranges in
     rw (to_z-of_z fits.x, to_z-of_z fits.y) at

@@ -4,9 +4,11 @@ use mathlib.Core.Path.{sym, ◌∙◌}
 use native.Mathlib.Omega.{arith}
 use borrow.Author.Tests.{eqb-true}
 use mir.Facts.{to_z-of_z}
+use mir.Syntax.{w32}
+use mir.Val.{to_z}
 use Rattle.laws.specs.Listing.{Listed, listed, length-commands}
 use Rattle.vp3.proofs.Numbers.{read}
-use Rattle.vp3.proofs.Stitches.{Here, here, near-across, near_down, moves, scan-start, scan-little, scan-change, scan-on}
+use Rattle.vp3.proofs.Stitches.{Here, read_at, here, near-across, near_down, step-fits, moves, scan-start, scan-little, scan-change, scan-on}
 use Rattle.vp3.proofs.Pairs.{any-turn, scan-two, scan-rest}
 use Rattle.vp3.proofs.blocks.scan_block.Goals as goal
 
@@ -186,7 +188,7 @@ step-requires c =
       here a.xs.now a.ys.now a.kinds.now i c.requires.kinds_value (omega (arith, n, c.loop-i-test.true)),
       here a.xs.now a.ys.now a.kinds.now (i + 1) c.requires.kinds_value (omega (arith, n, c.loop-i-test.true)),
     ) in
-    (c.loop-i.invariant.across, near-across place.0)
+    step-fits (to_z w32 c.loop-i.px-bits) (read_at c.args.xs.now c.loop-i.i) c.loop-i.invariant.across (near-across place.0)
 
 pub step-requires-in-loop-i : goal.step-requires-in-loop-i
 step-requires-in-loop-i c =
@@ -199,7 +201,7 @@ step-requires-in-loop-i c =
       here a.xs.now a.ys.now a.kinds.now i c.requires.kinds_value (omega (arith, n, c.loop-i-test.true)),
       here a.xs.now a.ys.now a.kinds.now (i + 1) c.requires.kinds_value (omega (arith, n, c.loop-i-test.true)),
     ) in
-    (c.loop-i.invariant.down, near_down place.0)
+    step-fits (to_z w32 c.loop-i.py-bits) (read_at c.args.ys.now c.loop-i.i) c.loop-i.invariant.down (near_down place.0)
 
 pub overflow_add-len-in-loop-i : goal.overflow_add-len-in-loop-i
 overflow_add-len-in-loop-i c =
@@ -225,7 +227,7 @@ loop-i-preserved c =
     let ks = c.args.kinds.now in
     let inv = c.loop-i.invariant in
     let h = place.0 in
-    let d = moves h c.step.ensures c.step-in-loop-i.ensures in
+    let d = moves h inv.across inv.down c.step.ensures c.step-in-loop-i.ensures in
     let turn = any-turn ks h d inv.across inv.down c.op_of-op.ensures c.last_stitch-px.ensures c.last_stitch-py.ensures in
     scan-on inv (omega (arith, c.loop-i-test.true)) turn c.if-kinds-i-eq3.false c.cmd_len-len.ensures.0
 

@@ -4,7 +4,7 @@ use mathlib.Core.Path.{refl}
 use mir.Facts.{to_z-of_z}
 use Rattle.laws.specs.Listing.{Listed, listed}
 use Rattle.vp3.proofs.Numbers.{read}
-use Rattle.vp3.proofs.Stitches.{Scanning, Here, here, near-across, near_down, moves, scan-start, scan-done, scan-change, scan-on}
+use Rattle.vp3.proofs.Stitches.{Scanning, Here, read_at, here, near-across, near_down, step-fits, moves, scan-start, scan-done, scan-change, scan-on}
 use Rattle.vp3.proofs.Pairs.{any-turn, rest-is}
 use Rattle.vp3.proofs.blocks.scan_last.Goals as goal
 
@@ -57,7 +57,7 @@ step-requires c =
     (rw (to_z-of_z c.ranges.px) c.requires.close.0) (rw (to_z-of_z c.ranges.py) c.requires.close.1) in
     let place : (let a = c.args in Here a.xs.now a.ys.now a.i) = let a = c.args in
     here a.xs.now a.ys.now a.kinds.now a.i c.requires.placed (omega (arith, c.list_len-n.ensures, c.if-n-i.false)) in
-    (start.across, near-across place)
+    step-fits (read c.args.px) (read_at c.args.xs.now c.args.i) start.across (near-across place)
 
 pub offset_bounds-ys-i : goal.offset_bounds-ys-i
 offset_bounds-ys-i c =
@@ -78,7 +78,7 @@ step-requires-2 c =
     (rw (to_z-of_z c.ranges.px) c.requires.close.0) (rw (to_z-of_z c.ranges.py) c.requires.close.1) in
     let place : (let a = c.args in Here a.xs.now a.ys.now a.i) = let a = c.args in
     here a.xs.now a.ys.now a.kinds.now a.i c.requires.placed (omega (arith, c.list_len-n.ensures, c.if-n-i.false)) in
-    (start.down, near_down place)
+    step-fits (read c.args.py) (read_at c.args.ys.now c.args.i) start.down (near_down place)
 
 pub returns : goal.returns
 returns c =
@@ -91,7 +91,7 @@ returns c =
     here a.xs.now a.ys.now a.kinds.now a.i c.requires.placed (omega (arith, c.list_len-n.ensures, c.if-n-i.false)) in
     let h = place in
     let known = start in
-    let d = moves h c.step.ensures c.step-2.ensures in
+    let d = moves h known.across known.down c.step.ensures c.step-2.ensures in
     let turn = any-turn c.args.kinds.now h d known.across known.down c.op_of.ensures refl refl in
     let done = scan-done (scan-on known c.if-n-i.false turn c.if-kinds-i-eq3.false c.cmd_len-more.ensures.0)
     (omega (arith, c.requires.last, c.list_len-n.ensures)) in
