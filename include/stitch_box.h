@@ -1,8 +1,8 @@
 /* The stitch box for C: six embroidery formats (PES, PEC, DST, EXP, JEF, VP3), written and read; job files, imported and exported.
  *
- * The archive is crates/stitch_box_c/out/libstitch_box_c.a, made by `rt lib` in crates/stitch_box_c, for x86-64 Linux. It takes memcpy,
- * memmove and memset from the C library and nothing else, uses no heap and keeps nothing between calls. Each slice is a pointer and a
- * length, counted in elements.
+ * The archive is crates/stitch_box_c/out/libstitch_box_c.a, made by `rt lib` in crates/stitch_box_c, for x86-64 Linux. It takes memcpy and
+ * memset from the C library and nothing else, uses no heap and keeps nothing between calls. Each slice is a pointer and a length, counted
+ * in elements.
  * Slices and numbers that are written must not overlap any other. A slice of length 0 still needs a pointer that is not null; the data() of
  * an empty C++ vector may be null, so pass `v.empty() ? &spare : v.data()` with some `spare` of the element type.
  *

@@ -19,8 +19,10 @@ pub fn refused(err: &impl Print, why: Refusal) {
 }
 
 // One line: how a program is called.
-pub fn usage(err: &impl Print, line: &str) {
-    let _ = println!(err; "usage: {line}");
+pub fn usage(err: &impl Print, line: &[u8]) {
+    say(err, b"usage: ");
+    say(err, line);
+    say(err, b"\n");
 }
 
 // How many bytes a text has ahead of ` (os error N)`, with which std ends the system's own words.

@@ -93,9 +93,11 @@ pub fn put_text(out: &mut [u8], at: usize, text: &[u8]) -> usize
     requires { at + length text.now ≤ length out.old }
     ensures { Puts out at result text.now }
 {
-    let end = at + text.len();
-    out[at..end].copy_from_slice(text);
-    end
+    let mut to = at;
+    for b in text {
+        to = put(out, to, *b);
+    }
+    to
 }
 
 // The same byte n times.

@@ -102,7 +102,7 @@ fn main(rt: HostRuntime) -> io::Result<()> {
     let err = rt.stderr();
     let mut name = [0u8; 4096];
     let Some((n, h)) = arguments(&rt, &mut name) else {
-        usage(&err, "fits FILE LEFT RIGHT TOP BOTTOM");
+        usage(&err, b"fits FILE LEFT RIGHT TOP BOTTOM");
         return Ok(());
     };
     fits(&rt, &err, &name[..n], h)

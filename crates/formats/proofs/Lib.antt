@@ -2,3 +2,4 @@ pub mod Distances
 pub mod Framing
 pub mod Leads
 pub mod Names
+pub mod Turns

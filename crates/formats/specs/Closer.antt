@@ -1,5 +1,5 @@
 -- One turn of the choice of an entry.
-use Rattle.std.specs.Prelude.{ℕ, Bool, true, leb, ltb, Some, None, Option}
+use Rattle.std.specs.Prelude.{ℕ, Bool, true, leb, ltb, eqb, Some, None, Option}
 use Rattle.rules.specs.Vocabulary.{pick}
 use Rattle.rules.specs.Choices.{distance}
 use Rattle.rules.specs.declared.Color.{Color}
@@ -13,3 +13,11 @@ takes_over later None d = true
 abbrev pub closer_of : Bool → Color → Option (ℕ × ℕ) → Option Color → ℕ → Option (ℕ × ℕ)
 closer_of later c best None i = best
 closer_of later c best (Some t) i = pick (takes_over later best (distance c t)) (Some (i, distance c t)) best
+
+-- the same test by the least distance so far
+abbrev pub leads_by : Bool → ℕ → ℕ → Bool
+leads_by later least d = pick later (leb d least) (ltb d least)
+
+-- what leads, by its entry and its distance
+abbrev pub seen : ℕ → ℕ → Option (ℕ × ℕ)
+seen at least = pick (eqb least 4294967296) None (Some (at, least))

@@ -2,13 +2,13 @@
 // A port of src/formats/mod.rs of zigzag, changed.
 #![tactic(auto)]
 
-ghost use Rattle.std.specs.Prelude.{◌≡◌, true, false, ◌+◌, ◌≤◌, eqb, length};
+ghost use Rattle.std.specs.Prelude.{◌≡◌, true, false, ◌+◌, ◌≤◌, ◌<◌, eqb, length};
 ghost use Rattle.rules.specs.Lists.{op_of, commands};
 ghost use Rattle.rules.specs.Refusals.{extension_of, place_outside};
 ghost use Rattle.rules.specs.Choices.{half_to_even, gap, weighed, distance, away, nearest_answer, with_distance, pec_palette};
 ghost use Rattle.laws.specs.Choosing.{choice};
 ghost use Rattle.geom.specs.Frames.{bounds_of};
-ghost use Rattle.formats.specs.Closer.{takes_over, closer_of};
+ghost use Rattle.formats.specs.Closer.{leads_by};
 
 use geom::{Bounds, P};
 pub use rules::{Cmd, Op};
@@ -157,48 +157,40 @@ pub struct Matched {
     pub distance: u32,
 }
 
-// Whether a thread at distance d takes the lead from what was found: of equal distances the later one or the first.
-fn takes(later: bool, best: Option<(usize, u32)>, d: u32) -> bool
-    ensures { result ≡ takes_over later best d }
-{
-    let Some((_, e)) = best else {
-        return true;
-    };
-    if later {
-        return d <= e;
-    }
-    d < e
-}
+// A number past all distances, for no thread.
+const FAR: u64 = 4294967296;
 
-// The nearest entry after entry i.
-fn closer(
-    later: bool,
-    color: Color,
-    best: Option<(usize, u32)>,
-    s: Option<Color>,
-    i: usize,
-) -> Option<(usize, u32)>
-    ensures { result ≡ closer_of later color best s i }
+// Whether a distance takes the lead from the least so far: of equal distances the later one or the first.
+fn takes(later: bool, least: u64, d: u64) -> bool
+    ensures { result ≡ leads_by later least d }
 {
-    let Some(t) = s else {
-        return best;
-    };
-    let d = color_distance(color, t);
-    if takes(later, best, d) {
-        return Some((i, d));
+    if later {
+        return d <= least;
     }
-    best
+    d < least
 }
 
 // The entry at the least distance, and the distance; of equal distances the later or the first.
+// Kept as numbers: with an `Option` a turn is a branch that is often mispredicted, and JEF's choice takes half as long again.
 pub fn nearest(later: bool, color: Color, palette: &[Option<Color>]) -> Option<(usize, u32)>
     ensures { result ≡ with_distance color palette.now (choice later color palette.now) }
 {
-    let mut best = None;
+    let mut at = 0;
+    let mut least = FAR;
     for i in 0..palette.len() {
-        best = closer(later, color, best, palette[i], i);
+        let Some(t) = palette[i] else {
+            continue;
+        };
+        let d = color_distance(color, t) as u64;
+        if takes(later, least, d) {
+            at = i;
+            least = d;
+        }
     }
-    best
+    if least == FAR {
+        return None;
+    }
+    Some((at, least as u32))
 }
 
 // PEC's choice: of equal distances the later.

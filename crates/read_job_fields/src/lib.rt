@@ -87,8 +87,12 @@ pub fn field_at(job: &[u8], at: usize, before: u8) -> Result<Field, Refusal>
     requires { at < length job.now }
     ensures { FieldRead job.now before at result }
 {
-    let tag = tag_at(job, at, before).ok_or(Refusal::BadTag)?;
-    let len = length_at(job, at + 1, tag).ok_or(Refusal::BadLength)?;
+    let Some(tag) = tag_at(job, at, before) else {
+        return Err(Refusal::BadTag);
+    };
+    let Some(len) = length_at(job, at + 1, tag) else {
+        return Err(Refusal::BadLength);
+    };
     let start = at + 3;
     Ok(Field {
         tag,

@@ -90,8 +90,11 @@ fn vp3_front(file: &[u8]) -> Result<Head, Refusal>
     ensures { result ≡ vp3_front file.now }
 {
     if file.starts_with(b"%vsm%\0") {
-        let counts = check(file)?;
-        return Ok(Head::Vp3 { counts });
+        // A match in place of `?`, so that a must-fail edit can change what a fault answers, and nothing else.
+        return match check(file) {
+            Ok(counts) => Ok(Head::Vp3 { counts }),
+            Err(why) => Err(why),
+        };
     }
     Err(Refusal::BadOpening)
 }

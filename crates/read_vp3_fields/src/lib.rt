@@ -53,26 +53,23 @@ pub fn be32(file: &[u8], at: usize) -> u32
     65536 * high + low
 }
 
-// Behind a fixed field of n bytes, in a part that ends at `end`.
-fn skip(at: usize, end: usize, n: usize) -> Result<usize, Refusal>
+// Behind n bytes, in a part that ends at `end`; or why there are fewer.
+fn inside(at: usize, end: usize, n: usize, why: Refusal) -> Result<usize, Refusal>
     requires { at ≤ end }
-    ensures { Ahead FileTooShort at end n result }
+    ensures { Ahead why at end n result }
 {
     if end - at < n {
-        return Err(Refusal::FileTooShort);
+        return Err(why);
     }
     Ok(at + n)
 }
 
-// Behind n bytes that a length tells of.
-fn inside(at: usize, end: usize, n: usize) -> Result<usize, Refusal>
+// Behind a fixed field of n bytes.
+fn skip(at: usize, end: usize, n: usize) -> Result<usize, Refusal>
     requires { at ≤ end }
-    ensures { Ahead OutOfRange at end n result }
+    ensures { Ahead FileTooShort at end n result }
 {
-    if end - at < n {
-        return Err(Refusal::OutOfRange);
-    }
-    Ok(at + n)
+    inside(at, end, n, Refusal::FileTooShort)
 }
 
 // Behind a text behind its length.
@@ -81,7 +78,7 @@ fn text(file: &[u8], at: usize, end: usize) -> Result<usize, Refusal>
     ensures { Reads text file.now at end result }
 {
     let start = skip(at, end, 2)?;
-    inside(start, end, be16(file, at))
+    inside(start, end, be16(file, at), Refusal::OutOfRange)
 }
 
 // A part behind its length.
@@ -90,7 +87,7 @@ fn part_at(file: &[u8], at: usize, end: usize) -> Result<Part, Refusal>
     ensures { PartAt file.now end at result }
 {
     let start = skip(at, end, 4)?;
-    let stop = inside(start, end, be32(file, at) as usize)?;
+    let stop = inside(start, end, be32(file, at) as usize, Refusal::OutOfRange)?;
     Ok(Part {
         at: start,
         end: stop,
@@ -159,6 +156,8 @@ fn start_by(follows: bool, z: i32, by: i64) -> Option<i32>
 }
 
 // The stitch part: three bytes, its length, three bytes more, stitches. The next block starts at (x, y).
+// It and the three below are to be inlined: else each `?` copies a block, and a file of many blocks takes two fifths longer.
+#[inline(always)]
 fn stitch_part(
     file: &[u8],
     from: usize,
@@ -183,6 +182,7 @@ fn stitch_part(
 }
 
 // The shift field, which makes the next block's start, and the stitch part.
+#[inline(always)]
 fn shifts(
     file: &[u8],
     at: usize,
@@ -203,6 +203,7 @@ fn shifts(
 }
 
 // A colour part of the block from (x, y): stored start, colour, three texts, shift, stitches.
+#[inline(always)]
 fn color_part(
     file: &[u8],
     from: usize,
@@ -223,6 +224,7 @@ fn color_part(
 }
 
 // The colour block from (x, y), and whether by the stored count another follows it.
+#[inline(always)]
 pub fn block_at(
     file: &[u8],
     from: usize,

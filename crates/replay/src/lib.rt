@@ -4,7 +4,7 @@
 pub mod bytes;
 pub mod packbits;
 
-ghost use Rattle.std.specs.Prelude.{◌<◌, ◌≤◌, length, IfOk, IfSome};
+ghost use Rattle.std.specs.Prelude.{◌<◌, ◌≤◌, ◌↔◌, All, IsTrue, drop, length, IfOk, IfSome};
 ghost use Rattle.std.specs.Io.{ReadsAtMost};
 
 use bytes::word;
@@ -75,7 +75,9 @@ pub fn verdict(right: bool) -> Outcome {
 }
 
 // Whether the cells of a buffer from one on have the mark that it was filled with.
-pub fn stays<T: Copy + PartialEq>(s: &[T], from: usize, mark: T) -> bool {
+pub fn stays<T: Copy + PartialEq>(s: &[T], from: usize, mark: T) -> bool
+    ensures { IsTrue result ↔ All (λ x. IsTrue (T.eq x mark)) (drop from s.now) }
+{
     s.iter().skip(from).all(|x| *x == mark)
 }
 

@@ -131,7 +131,7 @@ fn main(rt: HostRuntime) {
     let mut job = [0u8; 4096];
     let mut out = [0u8; 4096];
     let Some((n, m)) = arguments(&rt, &mut job, &mut out) else {
-        usage(&err, "write_job JOB OUT");
+        usage(&err, b"write_job JOB OUT");
         return;
     };
     write_job(&rt, &err, &job[..n], &out[..m]);

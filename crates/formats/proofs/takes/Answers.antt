@@ -2,7 +2,7 @@
 use Rattle.formats.proofs.takes.Goals as goal
 
 pub returns-then-later : goal.returns-then-later
-returns-then-later c = rw (c.in-Some.is, c.if-later.true)
+returns-then-later c = rw c.if-later.true
 
 pub returns : goal.returns
-returns c = rw (c.in-Some.is, c.if-later.false)
+returns c = rw c.if-later.false

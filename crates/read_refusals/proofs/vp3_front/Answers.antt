@@ -3,8 +3,6 @@ use mathlib.Core.Path.{◌≡◌, sym, ◌∙◌}
 use mathlib.Core.Bool.{true}
 use Rattle.rules.specs.Text.{begins}
 use Rattle.rules.specs.Vp3.{vp3_opening}
-use Rattle.std.specs.Prelude.{Err}
-use borrow.Author.Rules.{rules}
 use Rattle.laws.specs.Prefixes.{begins-starts}
 use Rattle.read_refusals.proofs.Checked.{vp3-unlike, vp3-opened, vp3-sound, vp3-faulty}
 use Rattle.read_refusals.proofs.vp3_front.Goals as goal
@@ -15,19 +13,18 @@ check-requires c =
     let like : begins vp3_opening c.args.file.now ≡ true = sym (c.starts_with.ensures.value ∙ begins-starts _ _) ∙ c.if-starts_with.true in
     (vp3-opened _ like, c.requires)
 
-pub returns-then-starts_with : goal.returns-then-starts_with
+pub returns-in-Ok : goal.returns-in-Ok
 unfolding vp3_opening
-returns-then-starts_with c =
+returns-in-Ok c =
     let like : begins vp3_opening c.args.file.now ≡ true = sym (c.starts_with.ensures.value ∙ begins-starts _ _) ∙ c.if-starts_with.true in
-    let w = rw c.in_ok-counts.was at c.check.ensures in
+    let w = rw c.in-Ok.is at c.check.ensures in
     vp3-sound _ like w.0 w.1
 
-pub returns-in_err-counts : goal.returns-in_err-counts
+pub returns-in-Err : goal.returns-in-Err
 unfolding vp3_opening
-returns-in_err-counts c =
+returns-in-Err c =
     let like : begins vp3_opening c.args.file.now ≡ true = sym (c.starts_with.ensures.value ∙ begins-starts _ _) ∙ c.if-starts_with.true in
-    let e : c.from_residual.result ≡ Err c.in_err-counts.field-0.0 = search rules in
-    e ∙ vp3-faulty _ like (rw c.in_err-counts.was at c.check.ensures)
+    vp3-faulty _ like (rw c.in-Err.is at c.check.ensures)
 
 pub returns : goal.returns
 unfolding vp3_opening
