@@ -62,7 +62,7 @@ loop-thread-preserved c =
       (
         writing_more {vs = little 4 c.entry_of-e.result} l.invariant.1.0 turn c.put_word-to.ensures,
         off-more l.last s l.thread-iterator.rest.now more t l.far one c.choice_in-chosen.ensures
-            c.entry_of-e.ensures c.distance_of.ensures c.max-far.ensures l.invariant.1.1,
+            c.entry_of-e.ensures c.distance_of.ensures (omega arith) l.invariant.1.1,
       ),
     )
 

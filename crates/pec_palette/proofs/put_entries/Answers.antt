@@ -58,7 +58,7 @@ loop-i-preserved c =
     let l = c.loop-i in (
       writing_more l.invariant.0 turn c.put-to.ensures,
       off-more _ a.chart (threads_of s) l.i l.far (omega (arith, length-threads s)) c.thread_at-t.ensures
-          c.entry_in-e.ensures.0 c.away.ensures c.max-far.ensures l.invariant.1,
+          c.entry_in-e.ensures.0 c.away.ensures (omega arith) l.invariant.1,
     )
 
 pub shape_of-out : goal.shape_of-out
